@@ -8,9 +8,9 @@
 # The keeper is the one in memory, whose own part doesn't grow with the rows.
 set -eu
 cd "$(dirname "$0")/.."
-program=$PWD/crates/wm_test_journal/out/wm_test_journal
+program=$PWD/crates/wm_test_history/out/wm_test_history
 if [ ! -x "$program" ]; then
-  (cd crates/wm_test_journal && rt run >/dev/null)
+  (cd crates/wm_test_history && rt run >/dev/null)
 fi
 folder=$(mktemp -d)
 taken=$(mktemp)
@@ -65,7 +65,7 @@ cases() {
   for name in "${runs[@]}"; do
     mkdir -p "$1/$name"
     # The other files of cases have none here.
-    touch "$1/$name"/{jobs,log,queues,subsystems}.txt
+    touch "$1/$name"/{jobs,log,queues,subsystems,monitors}.txt
   done
   rows "$1" >"$1/rows/stored.txt"
   printf '> open\nOPEN\n' | cat "$1/rows/stored.txt" - >"$1/opened/stored.txt"

@@ -27,7 +27,7 @@ use Rattle.wm_command.specs.declared.row.Special.{Special}
 use Rattle.wm_command.specs.declared.row.Special.TheVariants as special
 use Rattle.wm_command.specs.declared.value.Value.{Value}
 use Rattle.wm_command.specs.declared.value.Value.TheVariants as value
-use Rattle.wm_words.specs.Words.{FitsJob}
+use Rattle.wm_command.specs.Words.{FitsJob}
 use Rattle.wm_command.specs.Printed.{IsQualified, FitsCompare, FitsRow, IsFit}
 use Rattle.wm_command.specs.Fields.{limit_value, or_special}
 use Rattle.wm_command.specs.Objects.{crtcls_values, crtpgmref_values, crtjobd_values, crtsbsd_values}

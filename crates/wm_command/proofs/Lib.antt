@@ -8,3 +8,7 @@ mod ReadForms
 mod ReadValues
 mod TableForms
 pub mod Texts
+pub mod WordsBack
+pub mod Digits
+pub mod Forms
+pub mod Plain

@@ -20,7 +20,7 @@ use Rattle.wm_command.specs.declared.row.Special.{Special}
 use Rattle.wm_command.specs.declared.value.Value.{Value}
 use Rattle.wm_command.specs.declared.value.Given.{Given}
 use Rattle.wm_command.specs.Print.{value_text, given_text}
-use Rattle.wm_words.specs.Texts.{job_text, date_text, time_text, second_text, cmp_text}
+use Rattle.wm_command.specs.Texts.{job_text, date_text, time_text, second_text, cmp_text}
 use Rattle.wm_command.specs.Printed.{FitsKind, FitsRow, IsQualified, FitsCompare}
 use Rattle.wm_command.specs.Values.{special_word, is_never, kind_value, is_special, compared, one_value as one_read}
 use Rattle.std.proofs.lemmas.Fmt.{length-decimal-le}
@@ -33,12 +33,12 @@ use Rattle.wm_clwords.specs.declared.tree.Item.{Item, Word as ItemWord, Quoted a
 use Rattle.wm_clwords.specs.Call.{list_tokens}
 use Rattle.wm_law.specs.declared.command.EndOption.{EndOption}
 use Rattle.wm_command.specs.Reading.{row_value}
-use Rattle.wm_words.specs.Words.{flag_text, ending_text, date_of, time_of}
+use Rattle.wm_command.specs.Words.{flag_text, ending_text, date_of, time_of}
 use Rattle.wm_base.specs.Text.{IsText}
 use Rattle.wm_command.specs.declared.fault.CmdFault.{CmdFault}
-use Rattle.wm_words.proofs.Digits.{within_high, second_six}
-use Rattle.wm_words.proofs.Back.{name_short, plain_qname, plain_decimal, number_read, number_short, padded_short, plain_job, job_read, job_short, by_weekday, date_small, plain_day, day_read, second_small, plain_second, at_read}
-use Rattle.wm_words.proofs.Plain.{Plain, plain_word, plain_upper, plain_name}
+use Rattle.wm_command.proofs.Digits.{within_high, second_six}
+use Rattle.wm_command.proofs.WordsBack.{name_short, plain_qname, plain_decimal, number_read, number_short, padded_short, plain_job, job_read, job_short, by_weekday, date_small, plain_day, day_read, second_small, plain_second, at_read}
+use Rattle.wm_command.proofs.Plain.{Plain, plain_word, plain_upper, plain_name}
 use Rattle.wm_command.proofs.ReadValues.{value_tokens, is_sound, word_only, quoted_only, not_special, is_own, own_special, word_read, quoted_read, object_read, program_read, compare_read, special_back}
 use Rattle.wm_base.specs.declared.refusal.Key.TheVariants as key
 use Rattle.wm_when.specs.declared.schedule.DateSpec.TheVariants as date

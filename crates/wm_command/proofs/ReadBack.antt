@@ -38,7 +38,7 @@ use Rattle.wm_command.specs.Entries.{addjobqe_values, addrtge_values, addaje_val
 use Rattle.wm_command.specs.Control.{endsbs_values, strpj_values, endpj_values, evoke_values, pwrdwnsys_values}
 use Rattle.wm_command.specs.Jobs.{sbmjob_values, chgjob_values, endjob_values}
 use Rattle.wm_command.specs.Table.{row_key, change_rows, change_word}
-use Rattle.wm_words.specs.Written.{place_of, key_of, listed}
+use Rattle.wm_command.specs.Written.{place_of, key_of, listed}
 use Rattle.wm_command.proofs.Back.{shown_back}
 use Rattle.wm_command.proofs.PrintValues.{rows_room, row_laws, given_tokens, bare_text, prints_bare, prints_given, given_short}
 use Rattle.wm_command.proofs.TableForms.{row_by_key, same_rows}

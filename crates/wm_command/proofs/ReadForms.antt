@@ -33,9 +33,9 @@ use Rattle.wm_command.specs.Call.{call_value, called_text}
 use Rattle.wm_command.specs.Printed.{IsQualified, FitsKind}
 use Rattle.wm_command.specs.Reading.{row_value}
 use Rattle.wm_command.specs.Values.{kind_value, special_word, is_never, is_special, item_value, text_value, or_bad, one_value, compared, one_compared, two_compared, text_from, start_of}
-use Rattle.wm_words.specs.Words.{job_of, flag_of, ending_of, date_of, number_of, time_of}
-use Rattle.wm_words.proofs.Forms.{none_some, some_same, name_is, number_is, job_is, date_is, time_is}
-use Rattle.wm_words.specs.Written.{text_of, is_word, is_bare}
+use Rattle.wm_command.specs.Words.{job_of, flag_of, ending_of, date_of, number_of, time_of}
+use Rattle.wm_command.proofs.Forms.{none_some, some_same, name_is, number_is, job_is, date_is, time_is}
+use Rattle.wm_command.specs.Written.{text_of, is_word, is_bare}
 use Rattle.wm_clwords.proofs.CallMeaning.{library_by}
 
 -- a value has the range of its kind; that its text is printable is no part of it

@@ -20,14 +20,14 @@ use Rattle.wm_command.specs.declared.row.Special.{Special}
 use Rattle.wm_command.specs.declared.row.Special.TheVariants as special
 use Rattle.wm_command.specs.declared.value.Value.{Value}
 use Rattle.wm_command.specs.declared.value.Value.TheVariants as value
-use Rattle.wm_words.specs.Texts.{job_text, date_text, time_text}
+use Rattle.wm_command.specs.Texts.{job_text, date_text, time_text}
 use Rattle.wm_command.specs.Printed.{IsQualified, FitsCompare}
 use Rattle.wm_command.specs.Reading.{row_value}
 use Rattle.wm_command.specs.Values.{kind_value, special_word, is_never, is_special, or_bad, compared, text_from}
 use Rattle.wm_command.specs.Values.{one_value as one_read}
-use Rattle.wm_words.specs.Words.{flag_text, ending_text}
-use Rattle.wm_words.proofs.Digits.{number_decimal}
-use Rattle.wm_words.proofs.Plain.{Plain, plain_no_star}
+use Rattle.wm_command.specs.Words.{flag_text, ending_text}
+use Rattle.wm_command.proofs.Digits.{number_decimal}
+use Rattle.wm_command.proofs.Plain.{Plain, plain_no_star}
 
 -- the tokens of a printed value
 abbrev pub value_tokens : Value → List Token

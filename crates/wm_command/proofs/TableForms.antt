@@ -24,9 +24,9 @@ use Rattle.wm_command.specs.Each.{go_on, each}
 use Rattle.wm_command.specs.Fields.{value_of}
 use Rattle.wm_command.specs.Reading.{same_key, is_given, row_named, row_value, with_value, keyed, keyed_by, next_item, stands_alone, first_item, first_by, items_given, default_value, complete, all_given}
 use Rattle.wm_command.specs.Values.{is_never}
-use Rattle.wm_words.specs.Words.{same}
-use Rattle.wm_words.specs.Written.{place_of, key_of, listed}
-use Rattle.wm_words.proofs.Forms.{none_some, some_same}
+use Rattle.wm_command.specs.Words.{same}
+use Rattle.wm_command.specs.Written.{place_of, key_of, listed}
+use Rattle.wm_command.proofs.Forms.{none_some, some_same}
 use Rattle.wm_command.proofs.ReadForms.{InKind, InRow, may_lack, is_right_drop, row_of, err_ok, ok_same, value_is}
 
 -- each key has what its row takes

@@ -8,7 +8,7 @@ use Rattle.wm_command.specs.declared.value.Value.{Value}
 use Rattle.wm_command.specs.declared.value.Value.TheVariants as value
 use Rattle.wm_command.specs.declared.fault.CmdFault.{CmdFault}
 use Rattle.wm_command.specs.declared.fault.CmdFault.TheVariants.{NotCall}
-use Rattle.wm_words.specs.Written.{is_word}
+use Rattle.wm_command.specs.Written.{is_word}
 
 abbrev pub text_kept : ℕ → List ℕ → Result Value CmdFault
 text_kept place text = if nat_le (length text) 1000 then Ok (value.Text text) else Err (NotCall place)

@@ -13,6 +13,6 @@ pub mod Reading
 pub mod Shown
 pub mod Table
 pub mod Values
-pub use Rattle.wm_words.specs.Texts
-pub use Rattle.wm_words.specs.Words
-pub use Rattle.wm_words.specs.Written
+pub mod Texts
+pub mod Words
+pub mod Written

@@ -21,7 +21,7 @@ use Rattle.wm_command.specs.Fields.{value_of, object_in, job_in}
 use Rattle.wm_command.specs.Made.{change_made}
 use Rattle.wm_command.specs.Reading.{all_given}
 use Rattle.wm_command.specs.Table.{change_rows, change_word, read_rows, read_word}
-use Rattle.wm_words.specs.Words.{same}
+use Rattle.wm_command.specs.Words.{same}
 
 abbrev pub changes : List ChangeVerb
 changes =

@@ -12,8 +12,8 @@ use Rattle.wm_command.specs.declared.value.Given.{Given}
 use Rattle.wm_command.specs.Shown.{values_of, verb_of}
 use Rattle.wm_command.specs.Table.{change_word}
 use Rattle.wm_command.specs.Values.{special_word}
-use Rattle.wm_words.specs.Texts.{job_text, cmp_text, date_text, time_text}
-use Rattle.wm_words.specs.Words.{flag_text, ending_text}
+use Rattle.wm_command.specs.Texts.{job_text, cmp_text, date_text, time_text}
+use Rattle.wm_command.specs.Words.{flag_text, ending_text}
 
 -- names are qualified, texts stand in apostrophes, numbers have no leading zeros
 unfoldable pub value_text : Value → List ℕ

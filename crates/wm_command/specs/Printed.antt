@@ -14,7 +14,7 @@ use Rattle.wm_when.specs.Schedule.{within, date_in_range, time_in_range}
 use Rattle.wm_law.specs.Fit.{IsCommand as IsMachineCommand}
 use Rattle.wm_law.specs.declared.command.Command.{Command}
 use Rattle.wm_law.specs.declared.command.Command.TheVariants as command
-use Rattle.wm_words.specs.Words.{FitsJob}
+use Rattle.wm_command.specs.Words.{FitsJob}
 use Rattle.wm_command.specs.declared.line.Line.{Line}
 use Rattle.wm_command.specs.declared.line.Line.TheVariants as line
 use Rattle.wm_command.specs.declared.fault.CmdFault.{CmdFault}

@@ -23,8 +23,8 @@ use Rattle.wm_command.specs.Each.{go_on, each}
 use Rattle.wm_command.specs.Table.{row_key, row_kind, row_special, row_otherwise}
 use Rattle.wm_command.specs.Call.{call_value}
 use Rattle.wm_command.specs.Values.{one_value, compared}
-use Rattle.wm_words.specs.Words.{same}
-use Rattle.wm_words.specs.Written.{place_of, key_of, listed}
+use Rattle.wm_command.specs.Words.{same}
+use Rattle.wm_command.specs.Written.{place_of, key_of, listed}
 
 -- keys are the same where their words are
 unfoldable pub same_key : Key → Key → Bool

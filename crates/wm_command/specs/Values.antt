@@ -15,8 +15,8 @@ use Rattle.wm_command.specs.declared.value.Value.{Value}
 use Rattle.wm_command.specs.declared.value.Value.TheVariants as value
 use Rattle.wm_command.specs.declared.fault.CmdFault.{CmdFault}
 use Rattle.wm_command.specs.declared.fault.CmdFault.TheVariants.{BadValue, TooManyValues}
-use Rattle.wm_words.specs.Words.{number_of, job_of, flag_of, ending_of, date_of, time_of}
-use Rattle.wm_words.specs.Written.{text_of, is_bare, is_word}
+use Rattle.wm_command.specs.Words.{number_of, job_of, flag_of, ending_of, date_of, time_of}
+use Rattle.wm_command.specs.Written.{text_of, is_bare, is_word}
 use Rattle.wm_base.specs.Name.{name_of}
 
 -- One value

@@ -3,10 +3,10 @@ ghost use Rattle.std.specs.Prelude.{◌≡◌, ◌≢◌, IfOk, IfErr, Ok, Err};
 ghost use Rattle.wm_command.specs.Call.{call_value};
 
 use crate::fault::CmdFault;
+use crate::is_word;
 use crate::value::Value;
 use std::alloc::Global;
 use wm_clwords::{CallFault, Item, call_text, read_call_items};
-use wm_words::is_word;
 
 /// The canonical text of the CALL that these items are, of at most 1,000 characters.
 pub fn call_value(alloc: Global, place: u32, items: &[Item]) -> Result<Value, CmdFault>

@@ -5,14 +5,14 @@ ghost use Rattle.wm_command.specs.Print.{value_text, given_text, command_text};
 
 use crate::commands::{command_word, values_of};
 use crate::value::{Given, Value};
+use crate::{
+    ending_word, flag_word, push_cmp, push_date, push_job, push_name, push_number, push_time,
+    push_word,
+};
 use std::alloc::Global;
 use wm_base::{NoMemory, Text};
 use wm_clwords::{push_qname, push_quoted};
 use wm_law::Command;
-use wm_words::{
-    ending_word, flag_word, push_cmp, push_date, push_job, push_name, push_number, push_time,
-    push_word,
-};
 
 #[tactic(auto, using(crate::proofs::Texts::texts), unfolding(crate::specs::Print::value_text))]
 fn push_value(alloc: Global, out: &mut Text, value: &Value) -> Result<(), NoMemory>

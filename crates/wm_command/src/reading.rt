@@ -10,6 +10,7 @@ use crate::fault::CmdFault;
 use crate::row::{Default, Kind, Row};
 use crate::value::{Value, Values};
 use crate::values::{compared, one_value};
+use crate::{key_of, listed, place_of};
 use std::alloc::Global;
 use std::slice;
 use wm_base::{Key, Text};
@@ -17,7 +18,6 @@ use wm_clwords::Item;
 use wm_desc::{qbatch, qdftjobd};
 use wm_law::EndOption;
 use wm_when::{DateSpec, TimeSpec};
-use wm_words::{key_of, listed, place_of};
 
 /// Whether keys are the same.
 #[tactic(auto, unfolding(crate::specs::Reading::same_key))]

@@ -8,12 +8,12 @@ ghost use Rattle.wm_command.specs.Values.{kind_value, text_value, item_value, te
 use crate::fault::CmdFault;
 use crate::row::{Kind, Row, Special};
 use crate::value::Value;
+use crate::{
+    date_of, ending_of, flag_of, is_bare, is_word, job_of, number_of, text_of, time_of, within,
+};
 use wm_base::{NoMemory, Text, name_of};
 use wm_clwords::{Item, read_object, read_program};
 use wm_desc::{Cmp, path_in_range};
-use wm_words::{
-    date_of, ending_of, flag_of, is_bare, is_word, job_of, number_of, text_of, time_of, within,
-};
 
 fn text_if(is_in_range: bool, text: &Text) -> Result<Option<Value>, NoMemory>
     ensures { IfOk result (λ v. v ≡ (if is_in_range then Some (value.Text text.now) else None)) }

@@ -3,8 +3,8 @@ use crate::Machine;
 use std::alloc::Global;
 use wm_base::{Kind, Limit, NoMemory, QName, Refusal};
 use wm_desc::PreEntry;
+use wm_indexes::room;
 use wm_law::{EndOption, Endpj, Reply, Strpj};
-use wm_prestart::room;
 use wm_subsystems::{
     Telling, add_stop_of, drop_entry_evokes, drop_stop, is_ending, is_on, is_stopped,
     reserve_for_active, tell_all,

@@ -7,15 +7,9 @@ use crate::Machine;
 use std::alloc::Global;
 use wm_base::{How, JobName, JobNumber, Limit, Name, NoMemory, Priority, QName, Serial, Text};
 use wm_desc::PreEntry;
+use wm_indexes::{Supply, replenish, room};
 use wm_law::{Evoke, Evokes, Job, JobKind, Phase, Wish};
-use wm_prestart::{Supply, replenish, room};
-use wm_subsystems::is_stopped;
-
-pub(crate) fn is_evoke_of(sbs: &QName, pgm: &QName, evoke: &Evoke) -> bool
-    ensures { result ≡ is_evoke_of sbs.now pgm.now evoke.now }
-{
-    evoke.sbs == *sbs && evoke.pgm == *pgm
-}
+use wm_subsystems::{is_evoke_of, is_stopped};
 
 // The place of the first request that waits for an entry.
 fn first_place(evokes: &[Evoke], sbs: &QName, pgm: &QName) -> Option<usize>
@@ -41,7 +35,7 @@ impl Machine {
     ghost use Rattle.wm_law.specs.Prestart.{is_evoke_of, assign, assigned, assigned_to, make_pre, make_pres, new_pre_job, replenished};
     ghost use Rattle.wm_law.specs.Submitting.{numbers_left};
     ghost use Rattle.wm_law.specs.Supply.{make_first, make_firsts, supply, supply_entry, supply_in};
-    ghost use Rattle.wm_prestart.specs.Supply.{IsSupply};
+    ghost use Rattle.wm_indexes.specs.Supply.{IsSupply};
     ghost use Rattle.wm_core.specs.Aside.{aside_of};
 
     // What the number of jobs that are made for an entry rests on.

@@ -4,11 +4,10 @@ ghost use Rattle.wm_law.specs.Prestart.{is_running};
 
 use crate::Machine;
 use crate::reports::{is_run_by, phase_word};
-use crate::supplying::is_evoke_of;
 use wm_base::{How, JobName, Kind, Limit, Name, NoMemory, QName, Refusal, Serial};
 use wm_desc::PreEntry;
 use wm_law::{Enduse, Evoke, EvokeCommand, Phase, Reply};
-use wm_subsystems::{is_ending, is_on, is_stopped};
+use wm_subsystems::{is_ending, is_evoke_of, is_on, is_stopped};
 
 /// How many requests may wait for an entry.
 const MAX_EVOKES: usize = 1000;

@@ -1,10 +1,10 @@
 -- What a call does to a pass.
 use Rattle.std.proofs.Common.{◌≡◌, ◌<◌, ◌≤◌, ◌++◌, ℕ, [], ◌∷◌, length, Result, Ok, Err, IfOk, OnOk, OnErr, sym, ap, subst, ◌∙◌}
 use Rattle.wm_law.specs.declared.call.Call.{Call}
-use Rattle.wm_journal.specs.History.{History, entry_at, with_call}
-use Rattle.wm_journal.specs.Limit.{limit_of}
-use Rattle.wm_journal.specs.declared.call_fault.CallFault.{CallFault}
-use Rattle.wm_journal.specs.declared.call_fault.CallFault.TheVariants.{LogFull}
+use Rattle.wm_floor.specs.History.{History, entry_at, with_call}
+use Rattle.wm_floor.specs.Limit.{limit_of}
+use Rattle.wm_floor.specs.declared.call_fault.CallFault.{CallFault}
+use Rattle.wm_floor.specs.declared.call_fault.CallFault.TheVariants.{LogFull}
 use Rattle.wm_floor.specs.declared.answer.Answered.{Answered}
 use Rattle.wm_floor.specs.declared.opened.Opened.{Opened}
 use Rattle.wm_floor.specs.Floor.{Floored, IsCalled, IsEntered, IsRefused, Seen, entry_of}

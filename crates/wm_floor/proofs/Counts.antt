@@ -3,8 +3,8 @@ use Rattle.std.proofs.Common.{◌≡◌, ◌+◌, ◌-◌, ◌<◌, ◌≤◌, �
 use borrow.Author.Tests.{eqb-true, eqb-false}
 use Rattle.wm_traits.specs.Cause.{raised}
 use Rattle.wm_turn.specs.Passed.{greatest, risen}
-use Rattle.wm_journal.specs.declared.call_fault.CallFault.{CallFault}
-use Rattle.wm_journal.specs.declared.call_fault.CallFault.TheVariants.{KeeperFault, LogFull, NoMemory}
+use Rattle.wm_floor.specs.declared.call_fault.CallFault.{CallFault}
+use Rattle.wm_floor.specs.declared.call_fault.CallFault.TheVariants.{KeeperFault, LogFull, NoMemory}
 use Rattle.wm_floor.specs.Causes.{HasMarkCause, HasMissed, IsMissCounted}
 use Rattle.wm_floor.specs.Ledger.{HasRisen}
 

@@ -2,10 +2,10 @@
 use Rattle.std.proofs.Common.{◌≡◌, ◌≤◌, ℕ, ℤ, List, [], Option, sym, refl, subst, arith}
 use Rattle.wm_traits.specs.declared.row.Row.{Row}
 use Rattle.wm_law.specs.declared.call.Entry.{Entry}
-use Rattle.wm_journal.specs.Journaled.{IsJournal}
-use Rattle.wm_journal.specs.Keeping.{telling, IsOpened}
-use Rattle.wm_journal.specs.Stored.{Stored}
-use Rattle.wm_journal.proofs.Trails.{trail_opened}
+use Rattle.wm_floor.specs.Journaled.{IsJournal}
+use Rattle.wm_floor.specs.Keeping.{telling, IsOpened}
+use Rattle.wm_floor.specs.Stored.{Stored}
+use Rattle.wm_floor.proofs.Trails.{trail_opened}
 use Rattle.wm_floor.specs.Ledger.{IsLedger, Ledgered}
 use Rattle.wm_floor.proofs.Counts.{risen_none}
 

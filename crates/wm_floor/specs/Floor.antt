@@ -6,14 +6,16 @@ use Rattle.wm_law.specs.declared.call.Entry.{Entry}
 use Rattle.wm_law.specs.declared.state.State.{State}
 use Rattle.wm_law.specs.History.{IsLegal}
 use Rattle.wm_turn.specs.Passed.{Passed, StartsWith, own}
-use Rattle.wm_journal.specs.History.{entry_at}
-use Rattle.wm_journal.specs.Keeping.{IsLeft, IsOpened, Telling}
-use Rattle.wm_journal.specs.Limit.{limit_of}
-use Rattle.wm_journal.specs.declared.call_fault.CallFault.{CallFault}
-use Rattle.wm_journal.specs.declared.call_fault.CallFault.TheVariants.{LogFull}
-use Rattle.wm_journal.specs.declared.open_fault.OpenFault.{OpenFault}
-use Rattle.wm_journal.specs.declared.open_fault.OpenFault.TheVariants.{NoMemory}
+use Rattle.wm_law.specs.Pending.{pending}
+use Rattle.wm_floor.specs.History.{entry_at, reached}
+use Rattle.wm_floor.specs.Keeping.{IsLeft, IsOpened, Telling}
+use Rattle.wm_floor.specs.Limit.{limit_of}
+use Rattle.wm_floor.specs.declared.call_fault.CallFault.{CallFault}
+use Rattle.wm_floor.specs.declared.call_fault.CallFault.TheVariants.{LogFull}
+use Rattle.wm_floor.specs.declared.open_fault.OpenFault.{OpenFault}
+use Rattle.wm_floor.specs.declared.open_fault.OpenFault.TheVariants.{NoMemory}
 use Rattle.wm_floor.specs.declared.answer.Answered.{Answered}
+use Rattle.wm_floor.specs.declared.answer.Waiting.{Waiting}
 use Rattle.wm_floor.specs.declared.opened.Opened.{Opened}
 use Rattle.wm_floor.specs.Ledger.{behind, caller_of}
 
@@ -46,6 +48,11 @@ module _ {K : Type 0} where
     pub seen : StartsWith new.seen old.seen
     pub mine : new.mine ≡ old.mine
     pub mark : old.mark ≤ new.mark
+
+  -- this waits for the monitor of the pass's number, behind all that the pass has seen
+  pub record Waits (f : Floored K) (p : Seen K) (w : Waiting) : Type 0 where
+    pub at : w.at ≡ length p.seen
+    pub pending : w.pending ≡ pending (reached (behind f.opening p.seen)) p.number
 
   -- the entry that the machine makes of a call behind what was found
   abbrev pub entry_of : Opened K → List Entry → ℕ → Call → ℕ → Entry

@@ -4,10 +4,10 @@ use Rattle.wm_traits.specs.declared.row.Row.{Row}
 use Rattle.wm_law.specs.declared.call.Entry.{Entry}
 use Rattle.wm_law.specs.declared.state.State.{State}
 use Rattle.wm_law.specs.History.{IsLegal}
-use Rattle.wm_journal.specs.History.{History}
-use Rattle.wm_journal.specs.Journaled.{IsJournal}
-use Rattle.wm_journal.specs.Keeping.{telling}
-use Rattle.wm_journal.specs.Trail.{HasTrail}
+use Rattle.wm_floor.specs.History.{History}
+use Rattle.wm_floor.specs.Journaled.{IsJournal}
+use Rattle.wm_floor.specs.Keeping.{telling}
+use Rattle.wm_floor.specs.Trail.{HasTrail}
 use Rattle.wm_floor.specs.declared.opened.Opened.{Opened}
 
 -- the number of the pass that made an entry

@@ -5,26 +5,26 @@ ghost use Rattle.wm_law.specs.Fit.{IsCall};
 ghost use Rattle.wm_law.specs.History.{IsLegal};
 ghost use Rattle.wm_law.specs.Pending.{pending};
 ghost use Rattle.wm_turn.specs.Passed.{begun, child, ended, fresh, joining, own, parent, Grows, HasAll, HasOwn, StartsWith};
-ghost use Rattle.wm_journal.specs.History.{reached};
-ghost use Rattle.wm_journal.specs.Keeping.{telling, IsOpened};
-ghost use Rattle.wm_journal.specs.OpenFaults.{IsCounted, NamesBad};
-ghost use Rattle.wm_journal.specs.Stored.{HasTables};
-ghost use Rattle.wm_journal.specs.Trail.{HasTrail};
+ghost use Rattle.wm_floor.specs.History.{reached};
+ghost use Rattle.wm_floor.specs.Keeping.{telling, IsOpened};
+ghost use Rattle.wm_floor.specs.OpenFaults.{IsCounted, NamesBad};
+ghost use Rattle.wm_floor.specs.Stored.{HasTables};
+ghost use Rattle.wm_floor.specs.Trail.{HasTrail};
 ghost use Rattle.wm_views.specs.Views.{shown};
 ghost use Rattle.wm_floor.specs.Causes.{HasMarkCause};
-ghost use Rattle.wm_floor.specs.Floor.{HasLooked, IsCalled, IsLeftOrOpened, IsPassOf, IsSame};
+ghost use Rattle.wm_floor.specs.Floor.{HasLooked, IsCalled, IsLeftOrOpened, IsPassOf, IsSame, Waits};
 ghost use Rattle.wm_floor.specs.Ledger.{behind, caller_of};
 
 use crate::answer::{Answered, View, Waiting};
 use crate::ledger::{Closed, Ledger};
 use crate::log::Log;
+use crate::{CallFault, OpenFault};
 use std::alloc::Global;
 use std::marker::Model;
 use std::snapshot::Snapshot;
 use std::sync::Wait;
 use wm_base::{Moment, NoMemory};
 use wm_core::Setup;
-use wm_journal::{CallFault, OpenFault};
 use wm_law::{Ask, Call};
 use wm_traits::Keeper;
 use wm_turn::{Pass, Turnstile};
@@ -50,7 +50,7 @@ impl<K: Keeper> Model for Floor<K> {
 impl<K: Keeper> Floor<K> {
     /// The machine of the rows that a keeper has, with no history, and pass 0. It takes users' commands while there are fewer
     /// entries than the limit. An `Err` hands the keeper back, with its rows as they were, or, where there was no memory for
-    /// the turnstile, with those of the opened state.
+    /// the place that callers take turns with, with those of the opened state.
     pub fn open(
         alloc: Global,
         keeper: K,
@@ -189,6 +189,18 @@ impl<K: Keeper> Floor<K> {
         let pending = ledger.pending(monitor);
         self.leave(pass, ledger);
         Waiting { at, pending }
+    }
+
+    /// What waits for the monitor of the pass's own number, as `pending` tells it.
+    pub fn waiting<R: Wait>(&self, rt: &R, pass: &mut FloorPass<K>) -> Waiting
+        requires own { IsPassOf self.now pass.old }
+        ensures own { IsPassOf self.now pass.new }
+        ensures same { IsSame pass.old pass.new }
+        ensures looked { HasLooked pass.old pass.new }
+        ensures waits { Waits self.now pass.new result }
+    {
+        let monitor = pass.number();
+        self.pending(rt, pass, monitor)
     }
 
     /// Makes the pass of the next number, which has seen what pass 0 has and has no entry.

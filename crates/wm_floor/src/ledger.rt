@@ -3,11 +3,12 @@ ghost use Rattle.std.specs.Arc.{arc_value};
 ghost use Rattle.std.specs.Prelude.{◌≡◌, ◌<◌, ◌≤◌, ℕ, [], length, Err, IfOk, IfErr, OnOk, OnErr};
 ghost use Rattle.wm_law.specs.Fit.{IsCall};
 ghost use Rattle.wm_law.specs.Pending.{pending};
-ghost use Rattle.wm_journal.specs.History.{entry_at, reached, with_call};
-ghost use Rattle.wm_journal.specs.Keeping.{telling, IsLeft, IsOpened};
-ghost use Rattle.wm_journal.specs.Limit.{limit_of};
-ghost use Rattle.wm_journal.specs.OpenFaults.{IsCounted, NamesBad};
-ghost use Rattle.wm_journal.specs.Stored.{HasTables};
+ghost use Rattle.wm_floor.specs.History.{entry_at, reached, with_call};
+ghost use Rattle.wm_floor.specs.Floor.{IsLeftOrOpened};
+ghost use Rattle.wm_floor.specs.Keeping.{telling, IsOpened};
+ghost use Rattle.wm_floor.specs.Limit.{limit_of};
+ghost use Rattle.wm_floor.specs.OpenFaults.{IsCounted, NamesBad};
+ghost use Rattle.wm_floor.specs.Stored.{HasTables};
 ghost use Rattle.wm_views.specs.Views.{shown};
 
 use crate::answer::Answered;
@@ -17,13 +18,13 @@ use crate::opened::Opened;
 use crate::shared::Shared;
 use crate::shared_list::SharedList;
 use crate::step::step;
-use std::alloc::Global;
+use crate::{CallFault, OpenFault, StoredCore};
+use std::alloc::{AllocFailed, Global};
 use std::marker::Model;
 use std::snapshot::Snapshot;
 use std::sync::Arc;
 use wm_base::{Moment, NoMemory};
 use wm_core::Setup;
-use wm_journal::{CallFault, OpenFault, StoredCore};
 use wm_law::{Ask, Call, Entry, Pending, Reply};
 use wm_traits::Keeper;
 use wm_turn::Standing;
@@ -34,7 +35,8 @@ use wm_views::Shown;
 pub struct Ledger<K: Keeper> {
     found: Snapshot<K>,
     opened: Snapshot<StoredCore<K>>,
-    stored: StoredCore<K>,
+    // Behind a box, since each turn moves the ledger out of the turnstile and back.
+    stored: Box<StoredCore<K>>,
     log: SharedList<Entry>,
     limit: u32,
     misses: u64,
@@ -68,9 +70,9 @@ impl<K: Keeper> Model for Ledger<K> {
 
     ghost use Rattle.wm_floor.specs.Ledger.{IsLedger};
 
-    ghost view = { λ l. record { opening = record { state = l.opened.value.state; keeper = l.opened.value.keeper; found = l.found.value; limit = l.limit }; log = l.log.items; keeper = l.stored.keeper; misses = l.misses } };
+    ghost view = { λ l. record { opening = record { state = l.opened.value.state; keeper = l.opened.value.keeper; found = l.found.value; limit = l.limit }; log = l.log.items; keeper = l.stored.value.keeper; misses = l.misses } };
 
-    ghost invariant = { λ l. IsLedger K.faults K.tables K.trail (record { opening = record { state = l.opened.value.state; keeper = l.opened.value.keeper; found = l.found.value; limit = l.limit }; log = l.log.items; keeper = l.stored.keeper; misses = l.misses }) l.stored.state };
+    ghost invariant = { λ l. IsLedger K.faults K.tables K.trail (record { opening = record { state = l.opened.value.state; keeper = l.opened.value.keeper; found = l.found.value; limit = l.limit }; log = l.log.items; keeper = l.stored.value.keeper; misses = l.misses }) l.stored.value.state };
 }
 
 impl<K: Keeper> Standing for Ledger<K> {
@@ -107,7 +109,8 @@ impl<K: Keeper> Ledger<K> {
     ghost use Rattle.wm_floor.specs.Causes.{HasMissed};
     ghost use Rattle.wm_floor.specs.Ledger.{history_of, HasLedger};
 
-    /// The machine of the rows that a keeper has, with no history.
+    /// The machine of the rows that a keeper has, with no history. An `Err` hands the keeper back, with its rows as they were, or,
+    /// where there was no memory for a place of the machine's own, with those of the opened state.
     pub(crate) fn open(
         alloc: Global,
         keeper: K,
@@ -123,21 +126,23 @@ impl<K: Keeper> Ledger<K> {
         ensures log { IfOk result (λ l. l.log ≡ []) }
         ensures misses { IfOk result (λ l. l.misses ≡ 0) }
         ensures now { IfOk result (λ l. l.keeper ≡ l.opening.keeper) }
-        ensures err { IfErr result (λ back. IsLeft (telling K.tables K.trail keeper) (telling K.tables K.trail back.0)) }
+        ensures err { IfErr result (λ back. IsLeftOrOpened setup.now.offset (telling K.tables K.trail keeper) (telling K.tables K.trail back.0) back.1) }
         ensures bad { IfErr result (λ back. NamesBad setup.now.offset (K.tables keeper) back.1) }
         ensures faults { IfErr result (λ back. IsCounted (K.faults keeper) (K.faults back.0) back.1) }
     {
         let found = Snapshot::of(&keeper);
-        match StoredCore::open(alloc, keeper, setup) {
-            Ok(stored) => Ok(Ledger {
+        let stored = StoredCore::open(alloc, keeper, setup)?;
+        let opened = Snapshot::of(&stored);
+        match Box::new(alloc, stored) {
+            Ok(boxed) => Ok(Ledger {
                 found,
-                opened: Snapshot::of(&stored),
-                stored,
+                opened,
+                stored: boxed,
                 log: SharedList::new(alloc),
                 limit,
                 misses: 0,
             }),
-            Err(back) => Err(back),
+            Err(AllocFailed { value }) => Err((value.close(), OpenFault::NoMemory)),
         }
     }
 
@@ -170,7 +175,7 @@ impl<K: Keeper> Ledger<K> {
         let Some(entry) = Arc::get_mut(&mut shared) else {
             return Err(CallFault::NoMemory);
         };
-        let reply = step(alloc, &mut self.stored, &mut self.misses, entry)?;
+        let reply = step(alloc, &mut *self.stored, &mut self.misses, entry)?;
         self.log.push_reserved(Shared::of(shared));
         Ok(reply)
     }
@@ -245,7 +250,7 @@ impl<K: Keeper> Ledger<K> {
     {
         Closed {
             log: Log::of(self.log),
-            keeper: self.stored.close(),
+            keeper: Box::into_inner(self.stored).close(),
         }
     }
 }

@@ -1,6 +1,6 @@
 // How many entries a history takes.
 ghost use Rattle.std.specs.Prelude.{◌≡◌};
-ghost use Rattle.wm_journal.specs.Limit.{limit_of};
+ghost use Rattle.wm_floor.specs.Limit.{limit_of};
 
 use wm_law::Call;
 

@@ -2,12 +2,12 @@
 ghost use Rattle.std.specs.Prelude.{◌≡◌, ◌≤◌, IfOk, OnOk, OnErr};
 ghost use Rattle.wm_law.specs.Fit.{IsCall};
 ghost use Rattle.wm_law.specs.History.{stepped};
-ghost use Rattle.wm_journal.specs.Keeping.{telling, IsKept, IsLeft};
+ghost use Rattle.wm_floor.specs.Keeping.{telling, IsKept, IsLeft};
 ghost use Rattle.wm_floor.specs.Causes.{HasMissed, IsMissCounted, NeverFull};
 
+use crate::{CallFault, Replied, StoredCore};
 use std::alloc::Global;
 use std::mem;
-use wm_journal::{CallFault, Replied, StoredCore};
 use wm_law::{Entry, Reply};
 use wm_traits::{KeepFault, Keeper};
 

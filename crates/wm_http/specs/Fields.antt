@@ -3,7 +3,7 @@ use Rattle.std.specs.Prelude.{ℕ, Bool, true, false, ◌&&◌, List, fold, map,
 use Rattle.std.specs.Str.{str_eq_ignore_ascii_case}
 use Rattle.httparse.specs.Grammar.{RequestHead}
 use Rattle.httparse.specs.Spans.{name_and_value}
-use Rattle.wm_words.specs.Words.{number_of}
+use Rattle.wm_command.specs.Words.{number_of}
 use Rattle.wm_http.specs.declared.request.Fields.{Fields}
 use Rattle.wm_http.specs.declared.request.Length.{Length}
 use Rattle.wm_http.specs.declared.request.Length.TheVariants.{Absent, Given, Bad}

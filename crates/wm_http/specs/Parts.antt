@@ -4,7 +4,7 @@ use Rattle.std.specs.Char.{to_ascii_uppercase}
 use Rattle.wm_base.specs.Name.{name_of}
 use Rattle.wm_base.specs.declared.job.JobName.{JobName}
 use Rattle.wm_base.specs.declared.qname.QName.{QName}
-use Rattle.wm_words.specs.Words.{number_of}
+use Rattle.wm_command.specs.Words.{number_of}
 
 abbrev pub is_no_query : ℕ → Bool
 is_no_query byte = not (byte == 63)

@@ -5,7 +5,7 @@ ghost use Rattle.wm_http.specs.Fields.{fields_in, is_word, with_field, with_leng
 
 use crate::request::{Fields, Length};
 use httparse::spans::HeaderSpan;
-use wm_words::number_of;
+use wm_command::number_of;
 
 // The same letters, in any case.
 fn is_word(bytes: &[u8], word: &[u8]) -> bool

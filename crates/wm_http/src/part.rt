@@ -4,7 +4,7 @@ ghost use Rattle.std.specs.List.{list_all};
 ghost use Rattle.wm_http.specs.Parts.{before_slash, behind_slash, is_ascii, is_no_query, is_no_slash, job_in, name_in, number_in, part, path_of, qname_in};
 
 use wm_base::{JobName, JobNumber, NAME_LEN, Name, QName, name_of};
-use wm_words::number_of;
+use wm_command::number_of;
 
 fn query_at(target: &[u8]) -> usize
     ensures value { result ≡ length (take_while is_no_query target.now) }

@@ -3,7 +3,7 @@ use Rattle.std.proofs.Common.{◌≡◌, ◌∙◌, ℕ, Bool, true, false, not,
 use Rattle.std.specs.List.{find, cons_option}
 use Rattle.std.specs.Ordering.{nat_cmp, is_lt}
 use Rattle.std.proofs.lemmas.Bool.Decides.{nat_tests}
-use Rattle.wm_active.specs.declared.acting.Acting.{Acting}
+use Rattle.wm_indexes.specs.declared.acting.Acting.{Acting}
 use Rattle.wm_law.specs.declared.job.Job.{Job}
 use Rattle.wm_law.specs.Counts.{is_active}
 use Rattle.wm_ordered.specs.Ordered.{key_of, first_from}

@@ -2,8 +2,8 @@
 use Rattle.std.proofs.Common.{◌≡◌, ◌∙◌, ℕ, ◌+◌, Bool, true, false, ◌&&◌, ◌==◌, cond, List, [], ◌∷◌, fold, Option, Some, None, option_map, refl, ap, sym, arith}
 use Rattle.std.specs.List.{find, cons_option}
 use Rattle.std.proofs.lemmas.List.Sums.{sum_by-cons}
-use Rattle.wm_active.specs.declared.acting.Acting.{Acting}
-use Rattle.wm_active.specs.Active as active
+use Rattle.wm_indexes.specs.declared.acting.Acting.{Acting}
+use Rattle.wm_indexes.specs.Active as active
 use Rattle.wm_law.specs.declared.job.Job.{Job}
 use Rattle.wm_law.specs.declared.job.Phase.{Phase}
 use Rattle.wm_law.specs.declared.job.Phase.TheVariants.{Waiting, Starting, Handed, Running, Ended}

@@ -5,21 +5,21 @@ use Rattle.std.proofs.lemmas.List.{length-append}
 use Rattle.std.proofs.lemmas.List.Elements.{All-nil, All-cons, All-append, All-weaker}
 use Rattle.std.proofs.lemmas.List.Folds.{list_any_none}
 use Rattle.wm_base.proofs.Tests.{eqb-lt}
-use Rattle.wm_active.specs.declared.acting.Acting.{Acting}
+use Rattle.wm_indexes.specs.declared.acting.Acting.{Acting}
 use Rattle.wm_base.specs.declared.job.How.{How}
 use Rattle.wm_desc.specs.Sorted.{has_key, added}
 use Rattle.wm_law.specs.declared.job.Job.{Job}
 use Rattle.wm_law.specs.Counts.{is_waiting, is_prestart}
-use Rattle.wm_names.specs.Names.{IsNames}
+use Rattle.wm_indexes.specs.Names.{IsNames}
 use Rattle.wm_ordered.specs.Ordered.{Pairs}
-use Rattle.wm_tally.specs.Counted.{same_counted}
-use Rattle.wm_tally.specs.Rows.{number_at}
-use Rattle.wm_tally.specs.Tally.{Counts, IsTally}
-use Rattle.wm_waiting.specs.declared.waiter.Waiter.{Waiter}
-use Rattle.wm_waiting.specs.Waiting.{has_place}
-use Rattle.wm_waiting.specs.Waiting as waiting
+use Rattle.wm_pick.specs.Counted.{same_counted}
+use Rattle.wm_pick.specs.Rows.{number_at}
+use Rattle.wm_pick.specs.Tally.{Counts, IsTally}
+use Rattle.wm_ordered.specs.declared.waiter.Waiter.{Waiter}
+use Rattle.wm_ordered.specs.Waiting.{has_place}
+use Rattle.wm_ordered.specs.Waiting as waiting
 use Rattle.wm_pick.specs.Parts.{waiter_of, waiters}
-use Rattle.wm_tally.specs.Tallied.{hows}
+use Rattle.wm_pick.specs.Tallied.{hows}
 use Rattle.wm_jobs.specs.Indexed.{order_of, active_of}
 use Rattle.wm_jobs.specs.Table.{Table, serial_of, is_busy}
 use Rattle.wm_jobs.specs.TableInside.{table_of, IsListed, AreListed, IsIndexed, HasRoom, HasNames, IsKept}
@@ -29,8 +29,8 @@ use Rattle.wm_jobs.proofs.Sifted.{picked-few, picked-keys, picked-length, pushed
 use Rattle.wm_jobs.proofs.Splits.{sorted-pushed}
 use Rattle.wm_jobs.proofs.JobParts.{waiting-unstarted, waiter-keyed, waiter-placed, order-keyed, order-none, active-keyed, active-none, hows-pushed, count-pushed}
 use Rattle.wm_law.proofs.InTurn.{not_active}
-use Rattle.wm_prestart.specs.declared.prestart_job.PrestartJob.{PrestartJob}
-use Rattle.wm_prestart.specs.OfJobs.{row_of}
+use Rattle.wm_indexes.specs.declared.prestart_job.PrestartJob.{PrestartJob}
+use Rattle.wm_indexes.specs.OfJobs.{row_of}
 use Rattle.wm_jobs.proofs.PrestartParts.{row-keyed, row-none}
 
 pub same-tally : (hs : List How) (old new : Counts) → new.counts ≡ old.counts → IsTally hs old → IsTally hs new

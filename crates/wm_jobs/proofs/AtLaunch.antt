@@ -5,18 +5,18 @@ use Rattle.std.specs.List.{count_by}
 use Rattle.std.specs.Ordering.{nat_cmp}
 use Rattle.std.proofs.lemmas.List.{length-append}
 use Rattle.std.proofs.lemmas.List.Elements.{All-nil, All-cons, All-append, All-weaker}
-use Rattle.wm_active.specs.declared.acting.Acting.{Acting}
+use Rattle.wm_indexes.specs.declared.acting.Acting.{Acting}
 use Rattle.wm_base.specs.declared.job.How.{How}
 use Rattle.wm_desc.specs.Sorted.{has_key, added}
 use Rattle.wm_law.specs.declared.job.Job.{Job}
 use Rattle.wm_law.specs.declared.job.Phase.TheVariants.{Waiting}
 use Rattle.wm_law.specs.Counts.{is_waiting, is_starting, is_active, is_prestart}
-use Rattle.wm_names.specs.Names.{IsNames}
+use Rattle.wm_indexes.specs.Names.{IsNames}
 use Rattle.wm_ordered.specs.Ordered.{key_of}
-use Rattle.wm_tally.specs.Tally.{Counts, IsTally}
-use Rattle.wm_waiting.specs.Waiting as waiting
+use Rattle.wm_pick.specs.Tally.{Counts, IsTally}
+use Rattle.wm_ordered.specs.Waiting as waiting
 use Rattle.wm_pick.specs.Parts.{waiter_of}
-use Rattle.wm_tally.specs.Tallied.{hows}
+use Rattle.wm_pick.specs.Tallied.{hows}
 use Rattle.wm_jobs.specs.Indexed.{acting_of, order_of, orders, active_of, actives, Starts, seated}
 use Rattle.wm_jobs.specs.Table.{Table, serial_of, is_busy}
 use Rattle.wm_jobs.specs.TableInside.{table_of, IsListed, AreListed, IsIndexed, HasRoom, HasNames, IsKept}
@@ -25,8 +25,8 @@ use Rattle.wm_jobs.proofs.NameParts.{names-pushed}
 use Rattle.wm_jobs.proofs.Sifted.{pushed-lacks, pushed-comes, pushed-same}
 use Rattle.wm_jobs.proofs.Splits.{sorted-pushed}
 use Rattle.wm_jobs.proofs.JobParts.{waiter-keyed, waiter-none, order-keyed, order-none, order-some, active-keyed, active-none, active-some, hows-pushed, tally-starts, count-more, count-pushed}
-use Rattle.wm_prestart.specs.declared.prestart_job.PrestartJob.{PrestartJob}
-use Rattle.wm_prestart.specs.OfJobs.{row_of, prestart_jobs}
+use Rattle.wm_indexes.specs.declared.prestart_job.PrestartJob.{PrestartJob}
+use Rattle.wm_indexes.specs.OfJobs.{row_of, prestart_jobs}
 use Rattle.wm_jobs.proofs.PrestartParts.{row-keyed}
 
 -- the job as it would wait

@@ -6,7 +6,7 @@ use Rattle.std.specs.Ordering.{nat_cmp}
 use Rattle.std.proofs.lemmas.List.{length-append, map-append}
 use Rattle.std.proofs.lemmas.List.Elements.{All-nil, All-cons, All-append, filter-append}
 use Rattle.std.proofs.lemmas.List.Folds.{list_any_none}
-use Rattle.wm_active.specs.declared.acting.Acting.{Acting}
+use Rattle.wm_indexes.specs.declared.acting.Acting.{Acting}
 use Rattle.wm_base.specs.declared.qname.QName.{QName}
 use Rattle.wm_desc.specs.Sorted.{IsSortedOnce, has_key}
 use Rattle.wm_law.specs.declared.job.Job.{Job}
@@ -15,13 +15,13 @@ use Rattle.wm_law.specs.declared.job.Phase.TheVariants.{Waiting, Starting, Hande
 use Rattle.wm_law.specs.Counts.{is_waiting, is_starting, is_active, is_prestart}
 use Rattle.wm_law.specs.Kept.{IsDistinct, waiting_places}
 use Rattle.wm_law.specs.Laws.{IsIn}
-use Rattle.wm_names.specs.Names.{IsNames}
+use Rattle.wm_indexes.specs.Names.{IsNames}
 use Rattle.wm_ordered.specs.Ordered.{Pairs}
 use Rattle.wm_ordered.proofs.Keyed.{length-added}
-use Rattle.wm_tally.specs.Tally.{Counts}
-use Rattle.wm_waiting.specs.declared.waiter.Waiter.{Waiter}
-use Rattle.wm_waiting.specs.Waiting.{has_place}
-use Rattle.wm_waiting.specs.Waiting as waiting
+use Rattle.wm_pick.specs.Tally.{Counts}
+use Rattle.wm_ordered.specs.declared.waiter.Waiter.{Waiter}
+use Rattle.wm_ordered.specs.Waiting.{has_place}
+use Rattle.wm_ordered.specs.Waiting as waiting
 use Rattle.wm_pick.specs.Parts.{waiter_on, waiter_of, waiters}
 use Rattle.wm_jobs.specs.Indexed.{order_of, active_of}
 use Rattle.wm_jobs.specs.Stored.{AreStored, joined_by, IsOther}
@@ -33,8 +33,8 @@ use Rattle.wm_jobs.proofs.JobParts.{waiter-keyed, waiter-placed, waiter-waits, o
 use Rattle.wm_jobs.proofs.NameParts.{names-pushed}
 use Rattle.wm_jobs.proofs.Sifted.{differs, picked-length, pushed-lacks, pushed-comes, pushed-same}
 use Rattle.wm_jobs.proofs.Splits.{sorted-pushed, above-head}
-use Rattle.wm_prestart.specs.declared.prestart_job.PrestartJob.{PrestartJob}
-use Rattle.wm_prestart.specs.OfJobs.{row_of}
+use Rattle.wm_indexes.specs.declared.prestart_job.PrestartJob.{PrestartJob}
+use Rattle.wm_indexes.specs.OfJobs.{row_of}
 use Rattle.wm_jobs.proofs.PrestartParts.{row-keyed, row-none}
 
 inactive-unstarted : (p : Phase) → is_active p ≡ false → is_starting p ≡ false

@@ -1,18 +1,18 @@
 -- What one job that changes leaves of a list of jobs.
 use Rattle.std.proofs.Common.{◌≡◌, ℕ, ◌<◌, ◌≤◌, true, List, [], ◌∷◌, ◌++◌, length, is_some, refl, subst, sym, arith, All}
 use Rattle.std.proofs.lemmas.List.Elements.{All-head, All-tail, All-cons}
-use Rattle.wm_active.specs.declared.acting.Acting.{Acting}
+use Rattle.wm_indexes.specs.declared.acting.Acting.{Acting}
 use Rattle.wm_law.specs.declared.job.Job.{Job}
 use Rattle.wm_law.specs.Counts.{is_waiting}
 use Rattle.wm_ordered.specs.Ordered.{Pairs}
-use Rattle.wm_tally.specs.Tally.{Counts, HasFew}
-use Rattle.wm_waiting.specs.Waiting.{Waiting}
-use Rattle.wm_tally.specs.Tallied.{hows}
+use Rattle.wm_pick.specs.Tally.{Counts, HasFew}
+use Rattle.wm_ordered.specs.Waiting.{Waiting}
+use Rattle.wm_pick.specs.Tallied.{hows}
 use Rattle.wm_jobs.specs.Table.{serial_of}
 use Rattle.wm_jobs.specs.TableInside.{IsListed, AreListed, IsIndexed, HasRoom}
 use Rattle.wm_jobs.proofs.JobParts.{hows-few}
 use Rattle.wm_jobs.proofs.Splits.{sorted-changed}
-use Rattle.wm_prestart.specs.declared.prestart_job.PrestartJob.{PrestartJob}
+use Rattle.wm_indexes.specs.declared.prestart_job.PrestartJob.{PrestartJob}
 
 module _ {X : Type 0} (P : X → Type 0) where
   pub all-changed : (l r : List X) (x y : X) → P y → All P (l ++ x ∷ r) → All P (l ++ y ∷ r)

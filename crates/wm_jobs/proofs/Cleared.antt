@@ -17,9 +17,9 @@ use Rattle.wm_law.specs.Jobs.{waiting_at}
 use Rattle.wm_law.specs.Queues.{is_on_queue, waits_on, cleared_from}
 use Rattle.wm_law.specs.Reports.{in_phase}
 use Rattle.wm_ordered.proofs.Members.{Contains-cons, Contains-head, Contains-cases}
-use Rattle.wm_waiting.specs.declared.waiter.Waiter.{Waiter}
-use Rattle.wm_waiting.specs.Waiting.{is_on, first_on}
-use Rattle.wm_waiting.proofs.Lines.{first_on-None, first_on-Some}
+use Rattle.wm_ordered.specs.declared.waiter.Waiter.{Waiter}
+use Rattle.wm_ordered.specs.Waiting.{is_on, first_on}
+use Rattle.wm_ordered.proofs.Lines.{first_on-None, first_on-Some}
 use Rattle.wm_pick.specs.Parts.{waiter_on, waiter_of, waiters}
 use Rattle.wm_jobs.specs.Table.{serial_of}
 use Rattle.wm_jobs.proofs.JobParts.{count-changed, waiter-keyed}

@@ -4,7 +4,7 @@ use mathlib.Core.Bool.{false≢true}
 use Rattle.std.specs.List.{filter_map, cons_option}
 use Rattle.std.specs.Ordering.{nat_cmp}
 use Rattle.std.proofs.lemmas.List.Elements.{All-contains, Contains-append_cases, Contains-append_right}
-use Rattle.wm_active.specs.declared.acting.Acting.{Acting}
+use Rattle.wm_indexes.specs.declared.acting.Acting.{Acting}
 use Rattle.wm_base.specs.declared.job.How.{How}
 use Rattle.wm_desc.specs.Sorted.{with_key, has_key, added, removed}
 use Rattle.wm_law.specs.declared.job.Job.{Job}
@@ -14,12 +14,12 @@ use Rattle.wm_law.specs.Counts.{is_waiting, is_starting, is_active}
 use Rattle.wm_law.specs.Named.{is_ended}
 use Rattle.wm_ordered.specs.Ordered.{Pairs}
 use Rattle.wm_ordered.proofs.Members.{Contains-head, find-None, list_any-none}
-use Rattle.wm_tally.specs.Tally.{Counts, IsTally, AddsHow, TakesHow}
-use Rattle.wm_waiting.specs.declared.waiter.Waiter.{Waiter}
-use Rattle.wm_waiting.specs.Waiting.{Waiting as Line, has_place}
-use Rattle.wm_waiting.specs.Waiting as waiting
+use Rattle.wm_pick.specs.Tally.{Counts, IsTally, AddsHow, TakesHow}
+use Rattle.wm_ordered.specs.declared.waiter.Waiter.{Waiter}
+use Rattle.wm_ordered.specs.Waiting.{Waiting as Line, has_place}
+use Rattle.wm_ordered.specs.Waiting as waiting
 use Rattle.wm_pick.specs.Parts.{waiter_of, waiters}
-use Rattle.wm_tally.specs.Tallied.{hows}
+use Rattle.wm_pick.specs.Tallied.{hows}
 use Rattle.wm_jobs.specs.Standings.{bit, comes, spent, rank, IsAround, AreOf, IsItsPlace, Follows, HowsFollow}
 use Rattle.wm_jobs.specs.Table.{serial_of, is_busy}
 use Rattle.wm_jobs.specs.Indexed.{order_of, active_of}
@@ -27,8 +27,8 @@ use Rattle.wm_jobs.specs.TableInside.{IsIndexed}
 use Rattle.wm_jobs.proofs.JobParts.{waiter-keyed, hows-active, hows-inactive, tally-in, tally-out, count-changed}
 use Rattle.wm_jobs.proofs.Sifted.{differs, picked-keys, picked-parts, picked-lacks, picked-comes, picked-goes, picked-same, picked-length}
 use Rattle.wm_jobs.proofs.Splits.{map-split}
-use Rattle.wm_prestart.specs.declared.prestart_job.PrestartJob.{PrestartJob}
-use Rattle.wm_prestart.specs.OfJobs.{row_of}
+use Rattle.wm_indexes.specs.declared.prestart_job.PrestartJob.{PrestartJob}
+use Rattle.wm_indexes.specs.OfJobs.{row_of}
 
 one-entry : {E : Type 0} (o : Option E) (es : List E) → length (cons_option o es) ≡ bit (is_some o) + length es
 one-entry None es = omega arith

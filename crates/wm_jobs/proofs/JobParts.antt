@@ -6,7 +6,7 @@ use mathlib.Core.Bool.{false≢true}
 use Rattle.std.proofs.lemmas.Bool.{cases_Bool, eq-eqb}
 use Rattle.std.proofs.lemmas.List.{map-append, append-nil}
 use Rattle.std.proofs.lemmas.List.Elements.{All-head, All-tail, filter-append}
-use Rattle.wm_active.specs.declared.acting.Acting.{Acting}
+use Rattle.wm_indexes.specs.declared.acting.Acting.{Acting}
 use Rattle.wm_base.specs.declared.job.How.{How}
 use Rattle.wm_base.specs.declared.qname.QName.{QName}
 use Rattle.wm_desc.specs.Sorted.{IsSortedOnce}
@@ -16,13 +16,13 @@ use Rattle.wm_law.specs.declared.job.Phase.TheVariants.{Waiting, Starting, Hande
 use Rattle.wm_law.specs.Counts.{is_waiting, is_starting, is_active}
 use Rattle.wm_law.specs.Pending.{sooner}
 use Rattle.wm_ordered.specs.Least.{sooner as sooner_of}
-use Rattle.wm_tally.specs.Tally.{Counts, IsTally, HasStarted}
-use Rattle.wm_tally.specs.Counted.{counted, number_of}
-use Rattle.wm_tally.specs.declared.counted.Counted.{Counted}
-use Rattle.wm_waiting.specs.declared.waiter.Waiter.{Waiter}
-use Rattle.wm_waiting.specs.Waiting.{is_ahead}
+use Rattle.wm_pick.specs.Tally.{Counts, IsTally, HasStarted}
+use Rattle.wm_pick.specs.Counted.{counted, number_of}
+use Rattle.wm_pick.specs.declared.counted.Counted.{Counted}
+use Rattle.wm_ordered.specs.declared.waiter.Waiter.{Waiter}
+use Rattle.wm_ordered.specs.Waiting.{is_ahead}
 use Rattle.wm_pick.specs.Parts.{waiter_on, waiter_of, waiters}
-use Rattle.wm_tally.specs.Tallied.{hows}
+use Rattle.wm_pick.specs.Tallied.{hows}
 use Rattle.wm_jobs.specs.Indexed.{acting_of, order_of, orders, active_of, actives, Starts}
 use Rattle.wm_jobs.specs.Table.{serial_of, active_in, starting_in}
 use Rattle.wm_jobs.proofs.Sifted.{count-append, count-cons, differs, picked-keys}

@@ -8,10 +8,10 @@ use Rattle.wm_law.specs.declared.command.JobRef.TheVariants.{Simple, ByUser, Ful
 use Rattle.wm_law.specs.declared.job.Job.{Job}
 use Rattle.wm_law.specs.Laws.{IsIn}
 use Rattle.wm_law.specs.Named.{is_ended, is_named, has_name, has_user_name, only_one}
-use Rattle.wm_names.specs.Namesakes.{joined}
-use Rattle.wm_names.specs.Names.{Names, IsNames, HasFew, serial_of_one}
-use Rattle.wm_names.proofs.EachRow.{each-replaced}
-use Rattle.wm_names.proofs.JobLemmas.{job_serial, total, total-middle, small-replaced}
+use Rattle.wm_indexes.specs.Namesakes.{joined}
+use Rattle.wm_indexes.specs.Names.{Names, IsNames, HasFew, serial_of_one}
+use Rattle.wm_indexes.proofs.EachRow.{each-replaced}
+use Rattle.wm_indexes.proofs.JobLemmas.{job_serial, total, total-middle, small-replaced}
 use Rattle.wm_jobs.specs.TableInside.{HasNames}
 use Rattle.wm_law.proofs.Moves.{the_one}
 

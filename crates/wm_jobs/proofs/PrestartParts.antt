@@ -4,8 +4,8 @@ use Rattle.wm_base.specs.declared.job.How.{How}
 use Rattle.wm_base.specs.declared.job.How.TheVariants.{NotYet, FromQueue, Auto, Pre}
 use Rattle.wm_law.specs.declared.job.Job.{Job}
 use Rattle.wm_law.specs.Counts.{is_active}
-use Rattle.wm_prestart.specs.declared.prestart_job.PrestartJob.{PrestartJob}
-use Rattle.wm_prestart.specs.OfJobs.{row_by, row_of}
+use Rattle.wm_indexes.specs.declared.prestart_job.PrestartJob.{PrestartJob}
+use Rattle.wm_indexes.specs.OfJobs.{row_by, row_of}
 use Rattle.wm_jobs.specs.Standings.{comes}
 
 keyed-by : (j : Job) (how : How) (e : ℕ × PrestartJob) → row_by j how ≡ Some e → e.0 ≡ j.serial

@@ -10,12 +10,12 @@ use Rattle.wm_law.specs.declared.job.Phase.{Phase}
 use Rattle.wm_law.specs.Counts.{is_waiting, is_starting, is_active}
 use Rattle.wm_law.specs.Jobs.{changed_at, waiting_at, active_at}
 use Rattle.wm_law.specs.Named.{is_ended}
-use Rattle.wm_names.specs.Names.{IsNames}
+use Rattle.wm_indexes.specs.Names.{IsNames}
 use Rattle.wm_ordered.specs.Ordered.{key_of}
 use Rattle.wm_ordered.proofs.Members.{Contains-head}
-use Rattle.wm_waiting.specs.declared.waiter.Waiter.{Waiter}
-use Rattle.wm_waiting.specs.Waiting.{HavePlaces}
-use Rattle.wm_waiting.specs.Waiting as waiting
+use Rattle.wm_ordered.specs.declared.waiter.Waiter.{Waiter}
+use Rattle.wm_ordered.specs.Waiting.{HavePlaces}
+use Rattle.wm_ordered.specs.Waiting as waiting
 use Rattle.wm_pick.specs.Parts.{waiter_of, waiters}
 use Rattle.wm_jobs.specs.declared.touched.Found.{Found}
 use Rattle.wm_jobs.specs.declared.touched.Mark.{Mark}

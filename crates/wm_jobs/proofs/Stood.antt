@@ -9,8 +9,8 @@ use Rattle.std.proofs.lemmas.List.Elements.{All-take, All-weaker, Contains-appen
 use Rattle.wm_desc.specs.Sorted.{IsSortedOnce}
 use Rattle.wm_law.specs.declared.job.Job.{Job}
 use Rattle.wm_ordered.proofs.Members.{Contains-nil}
-use Rattle.wm_waiting.specs.declared.waiter.Waiter.{Waiter}
-use Rattle.wm_waiting.specs.Waiting.{HavePlaces}
+use Rattle.wm_ordered.specs.declared.waiter.Waiter.{Waiter}
+use Rattle.wm_ordered.specs.Waiting.{HavePlaces}
 use Rattle.wm_pick.specs.Parts.{waiter_of, waiters}
 use Rattle.wm_jobs.specs.declared.touched.Mark.{Mark}
 use Rattle.wm_jobs.specs.declared.touched.Touched.{Touched}

@@ -13,12 +13,12 @@ use Rattle.wm_law.specs.Counts.{is_waiting, is_starting, is_active}
 use Rattle.wm_law.specs.Jobs.{changed_at}
 use Rattle.wm_law.specs.Named.{is_ended}
 use Rattle.wm_law.specs.Reports.{in_phase}
-use Rattle.wm_names.specs.Names.{Names, IsNames, HasLast, HasFew as HasFewNames}
+use Rattle.wm_indexes.specs.Names.{Names, IsNames, HasLast, HasFew as HasFewNames}
 use Rattle.wm_ordered.specs.Ordered.{key_of}
 use Rattle.wm_ordered.proofs.Members.{Contains-head, Contains-cons, Contains-cases}
-use Rattle.wm_tally.specs.Tally.{IsTally}
-use Rattle.wm_waiting.specs.declared.waiter.Waiter.{Waiter}
-use Rattle.wm_waiting.specs.Waiting as waiting
+use Rattle.wm_pick.specs.Tally.{IsTally}
+use Rattle.wm_ordered.specs.declared.waiter.Waiter.{Waiter}
+use Rattle.wm_ordered.specs.Waiting as waiting
 use Rattle.wm_pick.specs.Parts.{waiter_on, waiter_of, waiters}
 use Rattle.wm_jobs.specs.declared.touched.Mark.{Mark}
 use Rattle.wm_jobs.specs.declared.touched.Standing.{Standing}
@@ -38,7 +38,7 @@ use Rattle.wm_jobs.proofs.Sifted.{picked-parts, pushed-same}
 use Rattle.wm_jobs.proofs.Splits.{IsSplit, split-at, map-split}
 use Rattle.wm_jobs.proofs.Stood.{agrees, listed-front, stood-how, stood-now, stood-undone, undoable-same, first-pushed}
 use Rattle.wm_jobs.proofs.Undone.{undone-newest, marked-length, marked-noted, marked-pushed, marked-same}
-use Rattle.wm_prestart.specs.OfJobs.{row_of}
+use Rattle.wm_indexes.specs.OfJobs.{row_of}
 use Rattle.wm_jobs.proofs.PrestartParts.{row-keyed, row-none}
 
 -- where there are as many jobs as there were at the mark, they are those

@@ -1,7 +1,7 @@
 -- What jobs are found and counted by.
 use Rattle.std.specs.Prelude.{◌≡◌, ℕ, ◌+◌, ◌≤◌, Bool, true, false, List, length, filter_map, Option, Some, None, if◌then◌else◌}
 use Rattle.std.specs.Ordering.{nat_cmp}
-use Rattle.wm_active.specs.declared.acting.Acting.{Acting}
+use Rattle.wm_indexes.specs.declared.acting.Acting.{Acting}
 use Rattle.wm_base.specs.declared.job.How.{How}
 use Rattle.wm_desc.specs.Sorted.{added}
 use Rattle.wm_law.specs.declared.job.Job.{Job}
@@ -10,11 +10,11 @@ use Rattle.wm_law.specs.declared.job.Phase.TheVariants.{Waiting, Starting, Hande
 use Rattle.wm_law.specs.declared.job.Wish.{Wish}
 use Rattle.wm_law.specs.Counts.{is_starting, is_active}
 use Rattle.wm_law.specs.Wishes.{is_unhanded, wish_moment}
-use Rattle.wm_names.specs.Names.{Names}
+use Rattle.wm_indexes.specs.Names.{Names}
 use Rattle.wm_ordered.specs.Ordered.{Pairs, key_of}
-use Rattle.wm_prestart.specs.declared.prestart_job.PrestartJob.{PrestartJob}
-use Rattle.wm_tally.specs.Tally.{Counts, AddsHow}
-use Rattle.wm_waiting.specs.Waiting as waiting
+use Rattle.wm_indexes.specs.declared.prestart_job.PrestartJob.{PrestartJob}
+use Rattle.wm_pick.specs.Tally.{Counts, AddsHow}
+use Rattle.wm_ordered.specs.Waiting as waiting
 
 -- a job that waits for a monitor, by its serial
 abbrev pub order_of : Job → Option (ℕ × Unit {0})

@@ -2,22 +2,22 @@
 use Rattle.std.specs.Prelude.{◌≡◌, ℕ, ◌+◌, ◌<◌, ◌≤◌, Bool, true, false, not, ◌&&◌, ◌||◌, List, ◌∷◌, ◌++◌, ◌==◌, filter_map, find, map, Option, is_some, Some, All, if◌then◌else◌}
 use Rattle.std.specs.List.{Contains}
 use Rattle.std.specs.Ordering.{nat_cmp}
-use Rattle.wm_active.specs.declared.acting.Acting.{Acting}
+use Rattle.wm_indexes.specs.declared.acting.Acting.{Acting}
 use Rattle.wm_desc.specs.Place.{IsAt}
 use Rattle.wm_law.specs.declared.job.Job.{Job}
 use Rattle.wm_law.specs.declared.job.Phase.{Phase}
 use Rattle.wm_law.specs.declared.job.Phase.TheVariants.{Waiting, Starting, Handed, Running, Ended}
 use Rattle.wm_law.specs.Counts.{is_waiting, is_starting, is_active}
 use Rattle.wm_law.specs.Named.{is_ended}
-use Rattle.wm_names.specs.Names.{Names, IsNames, HasNamed}
+use Rattle.wm_indexes.specs.Names.{Names, IsNames, HasNamed}
 use Rattle.wm_ordered.specs.Ordered.{Pairs}
-use Rattle.wm_prestart.specs.declared.prestart_job.PrestartJob.{PrestartJob}
-use Rattle.wm_prestart.specs.OfJobs.{row_of}
-use Rattle.wm_tally.specs.Tally.{Counts, IsTally, HasFew, HasStarted}
-use Rattle.wm_waiting.specs.declared.waiter.Waiter.{Waiter}
-use Rattle.wm_waiting.specs.Waiting.{Waiting as Line}
+use Rattle.wm_indexes.specs.declared.prestart_job.PrestartJob.{PrestartJob}
+use Rattle.wm_indexes.specs.OfJobs.{row_of}
+use Rattle.wm_pick.specs.Tally.{Counts, IsTally, HasFew, HasStarted}
+use Rattle.wm_ordered.specs.declared.waiter.Waiter.{Waiter}
+use Rattle.wm_ordered.specs.Waiting.{Waiting as Line}
 use Rattle.wm_pick.specs.Parts.{waiter_of, waiters}
-use Rattle.wm_tally.specs.Tallied.{hows}
+use Rattle.wm_pick.specs.Tallied.{hows}
 use Rattle.wm_jobs.specs.Indexed.{order_of, active_of, nodes_of}
 use Rattle.wm_jobs.specs.Marked.{standing_of, standing_as}
 use Rattle.wm_jobs.specs.Table.{Table, serial_of}

@@ -5,8 +5,8 @@ use Rattle.wm_desc.specs.Sorted.{has_key, added}
 use Rattle.wm_law.specs.declared.job.Job.{Job}
 use Rattle.wm_law.specs.Counts.{is_active}
 use Rattle.wm_law.specs.Kept.{IsDistinct, waiting_places}
-use Rattle.wm_waiting.specs.declared.waiter.Waiter.{Waiter}
-use Rattle.wm_waiting.specs.Waiting.{serial_of, has_place}
+use Rattle.wm_ordered.specs.declared.waiter.Waiter.{Waiter}
+use Rattle.wm_ordered.specs.Waiting.{serial_of, has_place}
 use Rattle.wm_jobs.specs.TableInside.{AreListed}
 
 -- they stand as a table lists them, none is active, and those that wait have distinct places

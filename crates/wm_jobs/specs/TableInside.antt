@@ -1,18 +1,18 @@
 -- What lies in a table of jobs.
 use Rattle.std.specs.Prelude.{◌≡◌, ℕ, ◌+◌, ◌-◌, ◌^◌, ◌<◌, ◌≤◌, true, is_some, List, [], ◌∷◌, length, take, All, vec_capacity}
 use Rattle.std.specs.Ordering.{nat_cmp}
-use Rattle.wm_active.specs.declared.acting.Acting.{Acting}
+use Rattle.wm_indexes.specs.declared.acting.Acting.{Acting}
 use Rattle.wm_desc.specs.Sorted.{IsSortedOnce}
 use Rattle.wm_law.specs.declared.job.Job.{Job}
 use Rattle.wm_law.specs.Counts.{is_waiting, is_active}
-use Rattle.wm_names.specs.Names.{Names, IsNames}
+use Rattle.wm_indexes.specs.Names.{Names, IsNames}
 use Rattle.wm_ordered.specs.Ordered.{Pairs}
-use Rattle.wm_prestart.specs.declared.prestart_job.PrestartJob.{PrestartJob}
-use Rattle.wm_prestart.specs.OfJobs.{prestart_jobs}
-use Rattle.wm_tally.specs.Tally.{Counts, IsTally}
-use Rattle.wm_waiting.specs.Waiting.{Waiting, HavePlaces}
+use Rattle.wm_indexes.specs.declared.prestart_job.PrestartJob.{PrestartJob}
+use Rattle.wm_indexes.specs.OfJobs.{prestart_jobs}
+use Rattle.wm_pick.specs.Tally.{Counts, IsTally}
+use Rattle.wm_ordered.specs.Waiting.{Waiting, HavePlaces}
 use Rattle.wm_pick.specs.Parts.{waiters}
-use Rattle.wm_tally.specs.Tallied.{hows}
+use Rattle.wm_pick.specs.Tallied.{hows}
 use Rattle.wm_jobs.specs.Indexed.{orders, actives, nodes_of}
 use Rattle.wm_jobs.specs.Marked.{restored, undone, marked_by}
 use Rattle.wm_jobs.specs.Table.{Table, serial_of, busy_in}

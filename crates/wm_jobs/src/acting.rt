@@ -3,8 +3,8 @@ ghost use Rattle.std.specs.Prelude.{◌≡◌};
 ghost use Rattle.wm_law.specs.Wishes.{is_unhanded, wish_moment};
 ghost use Rattle.wm_jobs.specs.Indexed.{runner, acting_of};
 
-use wm_active::Acting;
 use wm_base::Moment;
+use wm_indexes::Acting;
 use wm_law::{Phase, Wish};
 
 fn is_unhanded(wish: &Wish) -> bool

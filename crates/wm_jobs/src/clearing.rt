@@ -8,8 +8,8 @@ impl JobTable {
     ghost use Rattle.std.specs.Ordering.{nat_cmp};
     ghost use Rattle.wm_desc.specs.Sorted.{IsSortedOnce};
     ghost use Rattle.wm_law.specs.Queues.{waits_on, cleared_from};
-    ghost use Rattle.wm_waiting.specs.Waiting.{first_on};
-    ghost use Rattle.wm_waiting.specs.Waiting.{serial_of as waiter_serial};
+    ghost use Rattle.wm_ordered.specs.Waiting.{first_on};
+    ghost use Rattle.wm_ordered.specs.Waiting.{serial_of as waiter_serial};
     ghost use Rattle.wm_pick.specs.Parts.{waiters};
     ghost use Rattle.wm_jobs.specs.Table.{serial_of, IsReady};
 

@@ -4,28 +4,25 @@ ghost use Rattle.std.specs.Ordering.{nat_cmp};
 ghost use Rattle.wm_desc.specs.Sorted.{has_key, added, removed};
 ghost use Rattle.wm_law.specs.Counts.{is_starting, is_active};
 ghost use Rattle.wm_ordered.specs.Ordered.{key_of};
-ghost use Rattle.wm_tally.specs.Tally.{HasFew};
+ghost use Rattle.wm_pick.specs.Tally.{HasFew};
 ghost use Rattle.wm_law.specs.declared.job.Job.{Job};
 ghost use Rattle.wm_base.specs.declared.job.EndCause.TheVariants.{Restarted};
 ghost use Rattle.wm_law.specs.declared.job.Phase.TheVariants.{Ended};
 ghost use Rattle.wm_law.specs.Reports.{in_phase};
-ghost use Rattle.wm_names.specs.Names.{HasLast, IsNames};
+ghost use Rattle.wm_indexes.specs.Names.{HasLast, IsNames};
 ghost use Rattle.wm_pick.specs.Parts.{waiter_of};
-ghost use Rattle.wm_prestart.specs.OfJobs.{row_of};
+ghost use Rattle.wm_indexes.specs.OfJobs.{row_of};
 ghost use Rattle.wm_jobs.specs.Stored.{joined_by, IsOther};
 ghost use Rattle.wm_jobs.specs.Indexed.{acting_of, seated, Starts, HasTaken, nodes_of};
 
 use crate::acting::acting_of;
 use crate::phases::{is_active, is_starting, waiter_of};
 use crate::prestart::prestart_of;
-use wm_active::ActiveJobs;
 use wm_base::{EndCause, How, NoMemory, Serial};
+use wm_indexes::{ActiveJobs, JobNames, PrestartJobs};
 use wm_law::{Job, Phase, Wish};
-use wm_names::JobNames;
-use wm_ordered::Ordered;
-use wm_prestart::PrestartJobs;
-use wm_tally::Tally;
-use wm_waiting::WaitingJobs;
+use wm_ordered::{Ordered, WaitingJobs};
+use wm_pick::Tally;
 
 /// Counts the how of a job that comes into a phase from Waiting.
 pub(crate) fn count_start(tally: &mut Tally, how: &How, phase: &Phase)

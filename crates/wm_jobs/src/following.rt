@@ -3,10 +3,10 @@
 ghost use Rattle.std.specs.Prelude.{◌≡◌, ◌+◌, ◌^◌, ◌<◌, ◌≤◌, true, false, is_some};
 ghost use Rattle.wm_law.specs.Counts.{is_waiting, is_starting, is_active};
 ghost use Rattle.wm_law.specs.Named.{is_ended};
-ghost use Rattle.wm_names.specs.Names.{HasNamed, HasFew as HasFewNames};
+ghost use Rattle.wm_indexes.specs.Names.{HasNamed, HasFew as HasFewNames};
 ghost use Rattle.wm_pick.specs.Parts.{waiter_of};
-ghost use Rattle.wm_prestart.specs.OfJobs.{row_of};
-ghost use Rattle.wm_tally.specs.Tally.{HasFew, HasStarted};
+ghost use Rattle.wm_indexes.specs.OfJobs.{row_of};
+ghost use Rattle.wm_pick.specs.Tally.{HasFew, HasStarted};
 ghost use Rattle.wm_jobs.specs.Indexed.{order_of, active_of, nodes_of};
 ghost use Rattle.wm_jobs.specs.Marked.{standing_as};
 ghost use Rattle.wm_jobs.specs.Standings.{bit, comes, spent, AreOf, IsItsPlace, Follows, HowsFollow, NamesFollow, NamesAgain, CanFollow, HasFollowed};
@@ -17,14 +17,11 @@ use crate::counts::{fewer, more, take_serial};
 use crate::phases::{counts_as_busy, is_active, is_ended, is_starting, is_waiting, waiter_of};
 use crate::prestart::{prestart_as, prestart_of};
 use crate::touched::Standing;
-use wm_active::ActiveJobs;
 use wm_base::Serial;
+use wm_indexes::{ActiveJobs, JobNames, PrestartJobs};
 use wm_law::{Job, Phase};
-use wm_names::JobNames;
-use wm_ordered::Ordered;
-use wm_prestart::PrestartJobs;
-use wm_tally::Tally;
-use wm_waiting::{Waiter, WaitingJobs};
+use wm_ordered::{Ordered, Waiter, WaitingJobs};
+use wm_pick::Tally;
 
 // A job that comes to stand like that, as what a choice looks at, where it waits then.
 fn waiter_as(job: &Job, standing: &Standing) -> Option<Waiter>

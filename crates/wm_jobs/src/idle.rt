@@ -1,8 +1,8 @@
 // Prestart jobs that are available or idle.
 use crate::JobTable;
 use wm_base::QName;
+use wm_indexes::PrestartEntry;
 use wm_law::Job;
-use wm_prestart::PrestartEntry;
 
 impl JobTable {
     ghost use Rattle.std.specs.Prelude.{◌≡◌};

@@ -5,7 +5,7 @@ ghost use Rattle.wm_law.specs.Named.{is_ended};
 ghost use Rattle.wm_pick.specs.Parts.{waiter_of};
 
 use wm_law::{Job, JobKind, Phase};
-use wm_waiting::Waiter;
+use wm_ordered::Waiter;
 
 pub(crate) fn is_waiting(phase: &Phase) -> bool
     ensures { result ≡ is_waiting phase.now }

@@ -3,15 +3,15 @@ ghost use Rattle.std.specs.Prelude.{◌≡◌, option_map};
 ghost use Rattle.wm_law.specs.declared.job.Job.{Job};
 ghost use Rattle.wm_law.specs.Prestart.{is_available, is_idle, is_running, is_to_run};
 ghost use Rattle.wm_law.specs.Wishes.{has_wish};
-ghost use Rattle.wm_prestart.specs.OfJobs.{readiness_of, row_of};
+ghost use Rattle.wm_indexes.specs.OfJobs.{readiness_of, row_of};
 ghost use Rattle.wm_jobs.specs.Marked.{standing_as};
 
 use crate::marking::standing_of;
 use crate::phases::is_active;
 use crate::touched::Standing;
 use wm_base::How;
+use wm_indexes::{PrestartEntry, PrestartJob, Readiness};
 use wm_law::{Job, Phase, Wish};
-use wm_prestart::{PrestartEntry, PrestartJob, Readiness};
 
 fn has_wish(wish: &Wish) -> bool
     ensures { result ≡ has_wish wish.now }

@@ -7,14 +7,11 @@ use crate::places::place;
 use crate::touched::{Mark, Touched};
 use std::alloc::{AllocError, Global};
 use std::marker::Model;
-use wm_active::ActiveJobs;
 use wm_base::{Moment, NoMemory, Serial};
+use wm_indexes::{ActiveJobs, JobNames, PrestartJobs};
 use wm_law::{Job, Launched, Phase};
-use wm_names::JobNames;
-use wm_ordered::Ordered;
-use wm_prestart::PrestartJobs;
-use wm_tally::Tally;
-use wm_waiting::WaitingJobs;
+use wm_ordered::{Ordered, WaitingJobs};
+use wm_pick::Tally;
 
 /// How many jobs a table takes at the most.
 const MOST: usize = 0x3fff_ffff;
@@ -85,9 +82,9 @@ impl JobTable {
     ghost use Rattle.wm_law.specs.Jobs.{changed_at};
     ghost use Rattle.wm_law.specs.Launch.{as_launched};
     ghost use Rattle.wm_law.specs.Reports.{phased_at};
-    ghost use Rattle.wm_tally.specs.Tally.{IsTally};
+    ghost use Rattle.wm_pick.specs.Tally.{IsTally};
     ghost use Rattle.wm_pick.specs.Parts.{waiters};
-    ghost use Rattle.wm_tally.specs.Tallied.{hows};
+    ghost use Rattle.wm_pick.specs.Tallied.{hows};
     ghost use Rattle.wm_jobs.specs.Table.{serial_of, active_in, busy_in, starting_in, next_due_in, present, IsReady};
 
     /// No jobs; the clock is 0, and serials and places begin at 1.

@@ -1,7 +1,7 @@
 // What is done to a job that is used.
 use crate::JobTable;
 use wm_base::{Limit, Serial};
-use wm_prestart::use_done;
+use wm_indexes::use_done;
 
 impl JobTable {
     ghost use Rattle.std.specs.Prelude.{◌≡◌, ◌+◌, ◌≤◌, map};

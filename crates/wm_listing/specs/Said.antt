@@ -21,8 +21,9 @@ use Rattle.wm_law.specs.declared.call.Reply.{Reply}
 use Rattle.wm_law.specs.declared.call.Reply.TheVariants.{Made, SbsStarted, SbsEnding, Submitted, Held, Released, Changed, JobEnding, JobEnded, QueueHeld, QueueReleased, QueueCleared, PreStarted, PreEnding, Evoked, EvokeWaits, UseEnded, PowerDown, Order, Nothing, Noted, No}
 use Rattle.wm_listing.specs.declared.line_fault.LineFault.{LineFault}
 use Rattle.wm_listing.specs.declared.line_fault.LineFault.TheVariants.{Cl, Cm}
-use Rattle.wm_listing.specs.declared.subject.Subject.{Subject}
-use Rattle.wm_listing.specs.declared.subject.Subject.TheVariants as subject
+use Rattle.wm_listing.specs.declared.mention.Mention.{Mention}
+use Rattle.wm_listing.specs.declared.mention.Subject.{Subject}
+use Rattle.wm_listing.specs.declared.mention.Subject.TheVariants as subject
 
 -- what is ordered, with the job's serial
 abbrev pub order_text : Asked → List ℕ
@@ -51,6 +52,10 @@ subject_of (command.Strpj c) = subject.PreEntry c.pgm c.sbs
 subject_of (command.Endpj c) = subject.PreEntry c.pgm c.sbs
 subject_of c = subject.Nothing
 
+-- what the line of a reply mentions of its command
+abbrev pub mention_of : Command → Mention
+mention_of c = record { verb = verb_of c; subject = subject_of c }
+
 -- a blank and what it is about, where it is about something
 abbrev pub behind_blank : Subject → List ℕ
 behind_blank subject.Nothing = []
@@ -58,16 +63,16 @@ behind_blank (subject.Object q) = codes " " ++ qname_text q
 behind_blank (subject.PreEntry pgm sbs) = codes " " ++ qname_text pgm ++ codes " in " ++ sbs
 
 -- the command's word, and what it is about
-abbrev pub made_text : Command → List ℕ
-made_text c = codes "OK " ++ change_word (verb_of c) ++ behind_blank (subject_of c)
+abbrev pub made_text : Mention → List ℕ
+made_text m = codes "OK " ++ change_word m.verb ++ behind_blank m.subject
 
 -- what is said of a command about a queue
-abbrev pub queue_text : Command → List ℕ → List ℕ
-queue_text c end = codes "OK queue" ++ behind_blank (subject_of c) ++ end
+abbrev pub queue_text : Subject → List ℕ → List ℕ
+queue_text s end = codes "OK queue" ++ behind_blank s ++ end
 
 -- what is said of a command about a prestart entry
-abbrev pub prestart_text : Command → List ℕ → List ℕ
-prestart_text c end = codes "OK prestart" ++ behind_blank (subject_of c) ++ end
+abbrev pub prestart_text : Subject → List ℕ → List ℕ
+prestart_text s end = codes "OK prestart" ++ behind_blank s ++ end
 
 -- what is said of the reply to a monitor's call, which is an order, nothing, noted or a refusal
 abbrev pub noted_text : Reply → List ℕ
@@ -94,30 +99,34 @@ noted_text (EvokeWaits position) = []
 noted_text (UseEnded job) = []
 noted_text PowerDown = []
 
+-- what is said of the reply to a command of which this is mentioned
+abbrev pub said_of : Mention → Reply → List ℕ
+said_of m Made = made_text m
+said_of m (SbsStarted sbs) = codes "OK subsystem " ++ qname_text sbs ++ codes " started"
+said_of m (SbsEnding sbs) = codes "OK subsystem " ++ qname_text sbs ++ codes " ending"
+said_of m (Submitted job jobq) = codes "OK " ++ job_name_text job ++ codes " submitted to " ++ qname_text jobq
+said_of m (Held job) = codes "OK " ++ job_name_text job ++ codes " held"
+said_of m (Released job) = codes "OK " ++ job_name_text job ++ codes " released"
+said_of m (Changed job) = codes "OK " ++ job_name_text job ++ codes " changed"
+said_of m (JobEnding job) = codes "OK " ++ job_name_text job ++ codes " ending"
+said_of m (JobEnded job) = codes "OK " ++ job_name_text job ++ codes " ended"
+said_of m QueueHeld = queue_text m.subject (codes " held")
+said_of m QueueReleased = queue_text m.subject (codes " released")
+said_of m (QueueCleared count) = queue_text m.subject (codes " cleared of " ++ decimal count ++ codes " jobs")
+said_of m PreStarted = prestart_text m.subject (codes " started")
+said_of m PreEnding = prestart_text m.subject (codes " ending")
+said_of m (Evoked job) = codes "OK " ++ job_name_text job ++ codes " has the request"
+said_of m (EvokeWaits position) = codes "OK request waits as " ++ decimal position
+said_of m (UseEnded job) = codes "OK " ++ job_name_text job ++ codes " use ended"
+said_of m PowerDown = codes "OK power down"
+said_of m (Order asked) = noted_text (Order asked)
+said_of m Nothing = noted_text Nothing
+said_of m Noted = noted_text Noted
+said_of m (No refusal) = noted_text (No refusal)
+
 -- what is said of a command's reply
 abbrev pub said_text : Command → Reply → List ℕ
-said_text c Made = made_text c
-said_text c (SbsStarted sbs) = codes "OK subsystem " ++ qname_text sbs ++ codes " started"
-said_text c (SbsEnding sbs) = codes "OK subsystem " ++ qname_text sbs ++ codes " ending"
-said_text c (Submitted job jobq) = codes "OK " ++ job_name_text job ++ codes " submitted to " ++ qname_text jobq
-said_text c (Held job) = codes "OK " ++ job_name_text job ++ codes " held"
-said_text c (Released job) = codes "OK " ++ job_name_text job ++ codes " released"
-said_text c (Changed job) = codes "OK " ++ job_name_text job ++ codes " changed"
-said_text c (JobEnding job) = codes "OK " ++ job_name_text job ++ codes " ending"
-said_text c (JobEnded job) = codes "OK " ++ job_name_text job ++ codes " ended"
-said_text c QueueHeld = queue_text c (codes " held")
-said_text c QueueReleased = queue_text c (codes " released")
-said_text c (QueueCleared count) = queue_text c (codes " cleared of " ++ decimal count ++ codes " jobs")
-said_text c PreStarted = prestart_text c (codes " started")
-said_text c PreEnding = prestart_text c (codes " ending")
-said_text c (Evoked job) = codes "OK " ++ job_name_text job ++ codes " has the request"
-said_text c (EvokeWaits position) = codes "OK request waits as " ++ decimal position
-said_text c (UseEnded job) = codes "OK " ++ job_name_text job ++ codes " use ended"
-said_text c PowerDown = codes "OK power down"
-said_text c (Order asked) = noted_text (Order asked)
-said_text c Nothing = noted_text Nothing
-said_text c Noted = noted_text Noted
-said_text c (No refusal) = noted_text (No refusal)
+said_text c = said_of (mention_of c)
 
 -- the number and the word of a text's fault, and its place; want of memory has no line
 abbrev pub cl_text : ClFault → List ℕ

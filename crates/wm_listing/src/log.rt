@@ -7,7 +7,7 @@ ghost use Rattle.wm_command.specs.Print.{command_text};
 ghost use Rattle.wm_listing.specs.Log.{call_text, reply_text, column, entry_fields, entry_line, entry_lines, log_text};
 
 use crate::columns::push_aligned;
-use crate::replies::{noted, said};
+use crate::replies::{mention_of, noted, said};
 use crate::whole::push_end;
 use std::alloc::Global;
 use wm_base::{Exit, Name, NoMemory, Serial, StartCause};
@@ -65,7 +65,7 @@ fn reply_line(alloc: Global, entry: &Entry) -> Result<String, NoMemory>
     ensures { IfOk result (λ text. string_bytes text ≡ reply_text entry.now.call entry.now.reply) }
 {
     match &entry.call {
-        Call::Change { command, .. } => said(alloc, command.get(), &entry.reply),
+        Call::Change { command, .. } => said(alloc, &mention_of(command.get()), &entry.reply),
         _ => noted(alloc, &entry.reply),
     }
 }

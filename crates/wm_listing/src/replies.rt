@@ -3,12 +3,12 @@ ghost use Rattle.std.specs.Prelude.{◌≡◌, ◌++◌, IfOk, OnOk, codes, stri
 ghost use Rattle.wm_base.specs.JobName.{job_name_text};
 ghost use Rattle.wm_base.specs.QName.{qname_text};
 ghost use Rattle.std.specs.Fmt.{decimal};
-ghost use Rattle.wm_listing.specs.Said.{behind_blank, made_text, noted_text, order_text, prestart_text, queue_text, said_text, subject_of};
+ghost use Rattle.wm_listing.specs.Said.{behind_blank, made_text, mention_of, noted_text, order_text, prestart_text, queue_text, said_of, subject_of};
 
-use crate::Subject;
+use crate::mention::{Mention, Subject};
 use std::alloc::Global;
 use wm_base::{Asked, JobName, NoMemory, QName};
-use wm_command::command_word;
+use wm_command::{change_word, verb_of};
 use wm_law::{Command, Reply};
 
 // What is ordered, with the job's serial.
@@ -35,8 +35,8 @@ fn submitted(alloc: Global, job: &JobName, jobq: &QName) -> Result<String, NoMem
     Ok(text)
 }
 
-/// What a command is about, as the line of its reply names it.
-pub fn subject_of(command: &Command) -> Subject
+// What a command is about.
+fn subject_of(command: &Command) -> Subject
     ensures { result ≡ subject_of command.now }
 {
     match command {
@@ -68,6 +68,16 @@ pub fn subject_of(command: &Command) -> Subject
     }
 }
 
+/// What the line of a reply mentions of its command.
+pub fn mention_of(command: &Command) -> Mention
+    ensures { result ≡ mention_of command.now }
+{
+    Mention {
+        verb: verb_of(command),
+        subject: subject_of(command),
+    }
+}
+
 // Adds a blank and a name.
 fn push_qname(text: &mut String, alloc: Global, name: &QName) -> Result<(), NoMemory>
     ensures { OnOk result (string_bytes text.new ≡ string_bytes text.old ++ (codes " " ++ qname_text name.now)) }
@@ -79,14 +89,14 @@ fn push_qname(text: &mut String, alloc: Global, name: &QName) -> Result<(), NoMe
 }
 
 // Adds a blank and what a command is about, where it is about something.
-fn push_subject(text: &mut String, alloc: Global, command: &Command) -> Result<(), NoMemory>
-    ensures { OnOk result (string_bytes text.new ≡ string_bytes text.old ++ behind_blank (subject_of command.now)) }
+fn push_subject(text: &mut String, alloc: Global, subject: &Subject) -> Result<(), NoMemory>
+    ensures { OnOk result (string_bytes text.new ≡ string_bytes text.old ++ behind_blank subject.now) }
 {
-    match subject_of(command) {
+    match subject {
         Subject::Nothing => {}
-        Subject::Object(name) => push_qname(text, alloc, &name)?,
+        Subject::Object(name) => push_qname(text, alloc, name)?,
         Subject::PreEntry { pgm, sbs } => {
-            push_qname(text, alloc, &pgm)?;
+            push_qname(text, alloc, pgm)?;
             text.push_str(" in ")?;
             text.push_str(sbs.as_str())?;
         }
@@ -95,40 +105,40 @@ fn push_subject(text: &mut String, alloc: Global, command: &Command) -> Result<(
 }
 
 // The command's word, and what it is about.
-fn made(alloc: Global, command: &Command) -> Result<String, NoMemory>
-    ensures { IfOk result (λ text. string_bytes text ≡ made_text command.now) }
+fn made(alloc: Global, mention: &Mention) -> Result<String, NoMemory>
+    ensures { IfOk result (λ text. string_bytes text ≡ made_text mention.now) }
 {
     let mut text = String::from_str(alloc, "OK ")?;
-    text.push_str(command_word(command))?;
-    push_subject(&mut text, alloc, command)?;
+    text.push_str(change_word(mention.verb))?;
+    push_subject(&mut text, alloc, &mention.subject)?;
     Ok(text)
 }
 
 // The queue that a command is about, and what became of it.
-fn queue(alloc: Global, command: &Command, end: &str) -> Result<String, NoMemory>
-    ensures { IfOk result (λ text. string_bytes text ≡ queue_text command.now end.now) }
+fn queue(alloc: Global, subject: &Subject, end: &str) -> Result<String, NoMemory>
+    ensures { IfOk result (λ text. string_bytes text ≡ queue_text subject.now end.now) }
 {
     let mut text = String::from_str(alloc, "OK queue")?;
-    push_subject(&mut text, alloc, command)?;
+    push_subject(&mut text, alloc, subject)?;
     text.push_str(end)?;
     Ok(text)
 }
 
 // That the queue was cleared, and of how many jobs.
-fn cleared(alloc: Global, command: &Command, count: u32) -> Result<String, NoMemory>
-    ensures { IfOk result (λ text. string_bytes text ≡ queue_text command.now (codes " cleared of " ++ decimal count ++ codes " jobs")) }
+fn cleared(alloc: Global, subject: &Subject, count: u32) -> Result<String, NoMemory>
+    ensures { IfOk result (λ text. string_bytes text ≡ queue_text subject.now (codes " cleared of " ++ decimal count ++ codes " jobs")) }
 {
     let end = format!(in alloc; " cleared of {count} jobs")?;
-    let text = queue(alloc, command, end.as_str())?;
+    let text = queue(alloc, subject, end.as_str())?;
     Ok(text)
 }
 
 // The prestart entry that a command is about, and what became of it.
-fn prestart(alloc: Global, command: &Command, end: &str) -> Result<String, NoMemory>
-    ensures { IfOk result (λ text. string_bytes text ≡ prestart_text command.now end.now) }
+fn prestart(alloc: Global, subject: &Subject, end: &str) -> Result<String, NoMemory>
+    ensures { IfOk result (λ text. string_bytes text ≡ prestart_text subject.now end.now) }
 {
     let mut text = String::from_str(alloc, "OK prestart")?;
-    push_subject(&mut text, alloc, command)?;
+    push_subject(&mut text, alloc, subject)?;
     text.push_str(end)?;
     Ok(text)
 }
@@ -147,11 +157,11 @@ pub fn noted(alloc: Global, reply: &Reply) -> Result<String, NoMemory>
 }
 
 /// What is said of a command's reply, a line without its end. An `Err` is want of memory.
-pub fn said(alloc: Global, command: &Command, reply: &Reply) -> Result<String, NoMemory>
-    ensures { IfOk result (λ text. string_bytes text ≡ said_text command.now reply.now) }
+pub fn said(alloc: Global, mention: &Mention, reply: &Reply) -> Result<String, NoMemory>
+    ensures { IfOk result (λ text. string_bytes text ≡ said_of mention.now reply.now) }
 {
     match reply {
-        Reply::Made => made(alloc, command),
+        Reply::Made => made(alloc, mention),
         Reply::SbsStarted(sbs) => format!(in alloc; "OK subsystem {sbs} started"),
         Reply::SbsEnding(sbs) => format!(in alloc; "OK subsystem {sbs} ending"),
         Reply::Submitted(job, jobq) => submitted(alloc, job, jobq),
@@ -160,11 +170,11 @@ pub fn said(alloc: Global, command: &Command, reply: &Reply) -> Result<String, N
         Reply::Changed(job) => format!(in alloc; "OK {job} changed"),
         Reply::JobEnding(job) => format!(in alloc; "OK {job} ending"),
         Reply::JobEnded(job) => format!(in alloc; "OK {job} ended"),
-        Reply::QueueHeld => queue(alloc, command, " held"),
-        Reply::QueueReleased => queue(alloc, command, " released"),
-        Reply::QueueCleared(count) => cleared(alloc, command, *count),
-        Reply::PreStarted => prestart(alloc, command, " started"),
-        Reply::PreEnding => prestart(alloc, command, " ending"),
+        Reply::QueueHeld => queue(alloc, &mention.subject, " held"),
+        Reply::QueueReleased => queue(alloc, &mention.subject, " released"),
+        Reply::QueueCleared(count) => cleared(alloc, &mention.subject, *count),
+        Reply::PreStarted => prestart(alloc, &mention.subject, " started"),
+        Reply::PreEnding => prestart(alloc, &mention.subject, " ending"),
         Reply::Evoked(job) => format!(in alloc; "OK {job} has the request"),
         Reply::EvokeWaits(position) => format!(in alloc; "OK request waits as {position}"),
         Reply::UseEnded(job) => format!(in alloc; "OK {job} use ended"),

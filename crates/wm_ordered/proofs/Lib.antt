@@ -17,3 +17,16 @@ pub mod Standing
 pub mod Tested
 pub mod Walked
 pub mod Whole
+pub mod Agreement
+pub mod Brought
+pub mod Firsts
+pub mod Heads
+pub mod IndexLemmas
+pub mod Lines
+pub mod Marks
+pub mod Moves
+pub mod NextHeads
+pub mod NextLines
+pub mod Orders
+pub mod Rows
+pub mod Turned

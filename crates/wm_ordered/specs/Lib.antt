@@ -2,3 +2,13 @@ pub mod Least
 pub mod Ordered
 pub mod Slots
 pub mod Tree
+pub mod Bringing
+pub mod Index
+pub mod Keys
+pub mod Moving
+pub mod NextHeads
+pub mod Orders
+pub mod SpotOrder
+pub mod Turning
+pub mod Waiting
+pub mod WaitingInside

@@ -1,4 +1,4 @@
-//! Two ordered maps whose room is taken beforehand.
+//! Two ordered maps whose room is taken beforehand, and the jobs that wait, which are kept in them.
 //!
 //! The contract for the layer above: an `Ordered<K, V>` and a `Slots<V>` are each the list of its pairs in ascending order of
 //! their keys, each key once. `insert`, `remove` and `set` take no memory; room for pairs is taken by `reserve` alone, and
@@ -14,13 +14,29 @@
 //! its slot empty, so that no other is moved, and a serial that is put in again takes its old slot. Where serials follow one
 //! another a slot is found by one look, and else by halves. Where all slots are in use the empty ones are let go. As `reserve`
 //! has taken twice the room, at least half of them are empty then, so that this costs each change a constant in the mean.
-//! The definitions are in `specs/`: `Ordered` has what a contract sees of a map, and what is found in it, `Tree` how a search
-//! tree lies among nodes in one vector, `Slots` what lies in slots, `Least` which of some moments is the least.
+//!
+//! `WaitingJobs` is seen as the list of its jobs in the order of their serials, the greatest moment that was made due, and for
+//! how many more jobs there is room. Of those of a queue and a priority that may have their turn, the one of least place is the
+//! head. `next_head` answers the head of the first priority from one on that has one, by one look; `first_on` the first of all on
+//! a queue, held and early ones too, and `next_on` the next behind one of them, by one look each; `next_due` the least moment
+//! that is to come. `replace` changes a job in its place. Room is taken by `reserve` alone. No call goes through the jobs but
+//! `turn_back`, which turns the clock back.
+//!
+//! The definitions are in `specs/`. Of the maps: `Ordered` has what a contract sees of a map, and what is found in it, `Tree` how a
+//! search tree lies among nodes in one vector, `Slots` what lies in slots, `Least` which of some moments is the least. Of the jobs
+//! that wait: `Waiting` has what a contract sees, `NextHeads` which head is the next, `WaitingInside` what lies in a
+//! `WaitingJobs`.
 #![tactic(auto)]
 
+mod bringing;
 mod edit;
 mod find;
+mod following;
+mod indexes;
+mod keys;
 mod links;
+mod moving;
+mod next;
 mod node;
 mod ordered;
 mod places;
@@ -28,7 +44,12 @@ mod slot;
 mod slot_edit;
 mod slot_find;
 mod slots;
+mod turning;
+mod waiter;
+mod waiting;
 mod weight;
 
 pub use ordered::Ordered;
 pub use slots::Slots;
+pub use waiter::Waiter;
+pub use waiting::WaitingJobs;

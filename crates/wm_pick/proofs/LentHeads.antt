@@ -14,11 +14,11 @@ use Rattle.wm_law.specs.Choice.{has_free_queue, is_held, is_ready}
 use Rattle.wm_law.specs.Counts.{is_waiting}
 use Rattle.wm_law.specs.Laws.{IsIn}
 use Rattle.wm_law.proofs.Named.{own_name}
-use Rattle.wm_tally.specs.Tally.{Counts}
-use Rattle.wm_waiting.specs.declared.waiter.Waiter.{Waiter}
-use Rattle.wm_waiting.specs.NextHeads as next
-use Rattle.wm_waiting.specs.Waiting as waits
-use Rattle.wm_waiting.specs.Waiting.{Waiting}
+use Rattle.wm_pick.specs.Tally.{Counts}
+use Rattle.wm_ordered.specs.declared.waiter.Waiter.{Waiter}
+use Rattle.wm_ordered.specs.NextHeads as next
+use Rattle.wm_ordered.specs.Waiting as waits
+use Rattle.wm_ordered.specs.Waiting.{Waiting}
 use Rattle.wm_pick.specs.Heads.{IsOrderly, head_of, is_on, is_turn, nearer, queues_of}
 use Rattle.wm_pick.specs.NextHeads.{HasNoHead, IsNextHead}
 use Rattle.wm_pick.specs.Parts.{IsLent, waiter_on, waiter_of, waiters}

@@ -4,3 +4,7 @@ pub mod FirstGiven
 pub mod LentHeads
 pub mod Nearest
 pub mod Skipped
+pub mod KeysOf
+pub mod TallyRows
+pub mod TalliedJobs
+pub mod TallyLemmas

@@ -2,7 +2,7 @@
 use Rattle.std.specs.Prelude.{◌≡◌, ℕ, ◌<◌, ◌≤◌, Some, None, option_map}
 use Rattle.wm_base.specs.declared.qname.QName.{QName}
 use Rattle.wm_law.specs.declared.state.State.{State}
-use Rattle.wm_waiting.specs.declared.waiter.Waiter.{Waiter}
+use Rattle.wm_ordered.specs.declared.waiter.Waiter.{Waiter}
 use Rattle.wm_pick.specs.Heads.{head_of}
 use Rattle.wm_pick.specs.Parts.{waiter_on}
 

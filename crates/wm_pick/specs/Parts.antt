@@ -9,10 +9,10 @@ use Rattle.wm_law.specs.declared.state.State.{State}
 use Rattle.wm_law.specs.declared.state.Sbs.{Sbs}
 use Rattle.wm_law.specs.declared.state.Power.TheVariants.{On}
 use Rattle.wm_law.specs.Counts.{is_waiting}
-use Rattle.wm_tally.specs.Tally.{Counts, IsTally}
-use Rattle.wm_waiting.specs.declared.waiter.Waiter.{Waiter}
-use Rattle.wm_waiting.specs.Waiting.{Waiting, HavePlaces, HavePriorities}
-use Rattle.wm_tally.specs.Tallied.{hows}
+use Rattle.wm_pick.specs.Tally.{Counts, IsTally}
+use Rattle.wm_ordered.specs.declared.waiter.Waiter.{Waiter}
+use Rattle.wm_ordered.specs.Waiting.{Waiting, HavePlaces, HavePriorities}
+use Rattle.wm_pick.specs.Tallied.{hows}
 
 -- a state that has these parts, and else nothing
 abbrev pub with_parts : Objects → List Job → List Sbs → List QName → ℕ → State

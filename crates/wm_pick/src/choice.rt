@@ -18,7 +18,7 @@ use std::sync::ledger::Ledger;
 use wm_base::{Limit, Priority, QName, Steps};
 use wm_desc::{Objects, QueueEntry, Sbsd};
 use wm_law::{Candidate, Rank, Sbs, SbsPhase};
-use wm_waiting::Waiter;
+use wm_ordered::Waiter;
 
 // The one of two that stands before the other, the first where neither does.
 fn better(best: Option<Candidate>, other: Option<Candidate>) -> Option<Candidate>

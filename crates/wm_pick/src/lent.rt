@@ -1,22 +1,21 @@
 // The lending of a state's parts, and what is read of them by the jobs that wait and by the tally.
 ghost use Rattle.std.specs.Prelude.{◌≡◌, ◌+◌, ◌≤◌, MatchOption};
-ghost use Rattle.wm_waiting.specs.declared.waiter.Waiter.{Waiter};
+ghost use Rattle.wm_ordered.specs.declared.waiter.Waiter.{Waiter};
 
-use crate::Parts;
+use crate::{Counted, Parts, Tally};
 use std::sync::ledger::Ledger;
 use wm_base::{Moment, Priority, QName, Steps};
 use wm_desc::Objects;
 use wm_law::{Job, QNames, SbsList};
-use wm_tally::{Counted, Tally};
-use wm_waiting::{Waiter, WaitingJobs};
+use wm_ordered::{Waiter, WaitingJobs};
 
 impl<'a> Parts<'a> {
     ghost use Rattle.wm_law.specs.Choice.{is_held};
     ghost use Rattle.wm_law.specs.Counts.{count_in_sbs, count_from_pre, count_from_queue, count_from_priority, count_by_route};
     ghost use Rattle.wm_pick.specs.NextHeads.{HasNoHead, IsNextHead};
     ghost use Rattle.wm_pick.specs.Parts.{with_parts, waiters};
-    ghost use Rattle.wm_tally.specs.Tallied.{hows};
-    ghost use Rattle.wm_tally.specs.Tally.{IsTally};
+    ghost use Rattle.wm_pick.specs.Tallied.{hows};
+    ghost use Rattle.wm_pick.specs.Tally.{IsTally};
 
     /// Lends the parts of a state.
     pub fn new(

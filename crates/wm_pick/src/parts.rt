@@ -1,10 +1,10 @@
 // The parts of a state that a choice looks at.
+use crate::Tally;
 use std::marker::Model;
 use wm_base::Moment;
 use wm_desc::Objects;
 use wm_law::{Job, QNames, SbsList};
-use wm_tally::Tally;
-use wm_waiting::WaitingJobs;
+use wm_ordered::WaitingJobs;
 
 /// What a choice and a launch look at, lent by the machine. A contract sees it as a state that has these parts, and
 /// else nothing. Its waiting jobs and its tally are those of its jobs, so that neither a choice nor a launch goes

@@ -10,8 +10,8 @@ use Rattle.wm_law.specs.Laws.{IsIn}
 use Rattle.wm_law.specs.declared.job.Job.{Job}
 use Rattle.wm_law.specs.declared.state.State.{State}
 use Rattle.wm_law.proofs.Members.{in_left, left_in, of_mapped}
-use Rattle.wm_job_rows.specs.JobText.{job_row}
-use Rattle.wm_job_rows.specs.Stored.{stored_of}
+use Rattle.wm_rows.specs.JobText.{job_row}
+use Rattle.wm_rows.specs.Stored.{stored_of}
 use Rattle.wm_tables.specs.Opened.{is_found, PutsNew}
 use Rattle.wm_tables.specs.Restart.{AreGood, HasCounters}
 use Rattle.wm_tables.specs.Tables.{job_rows, puts, tables}

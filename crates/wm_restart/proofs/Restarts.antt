@@ -7,8 +7,8 @@ use Rattle.wm_law.specs.Counts.{is_active}
 use Rattle.wm_law.specs.Laws.{IsIn}
 use Rattle.wm_law.specs.declared.job.Job.{Job}
 use Rattle.wm_law.specs.declared.state.State.{State}
-use Rattle.wm_job_rows.specs.JobText.{job_row}
-use Rattle.wm_job_rows.specs.Stored.{stored_of}
+use Rattle.wm_rows.specs.JobText.{job_row}
+use Rattle.wm_rows.specs.Stored.{stored_of}
 use Rattle.wm_tables.specs.Restart.{AreGood}
 use Rattle.wm_tables.proofs.Building.{built}
 use Rattle.wm_tables.proofs.NewRows.{job_stands}

@@ -1,8 +1,8 @@
 -- Whether a stored job waits.
 use Rattle.std.proofs.Common.{◌≡◌, ◌↔◌, Bool, true, false, IsTrue, refl}
 use Rattle.wm_law.specs.Counts.{is_waiting}
-use Rattle.wm_job_rows.specs.declared.stored.StoredPhase.{StoredPhase}
-use Rattle.wm_job_rows.specs.declared.stored.StoredPhase.TheVariants.{Waiting, Active, Ended}
+use Rattle.wm_rows.specs.declared.stored_job.StoredPhase.{StoredPhase}
+use Rattle.wm_rows.specs.declared.stored_job.StoredPhase.TheVariants.{Waiting, Active, Ended}
 use Rattle.wm_tables.specs.Restart.{phase_of}
 
 pub waits_as : (phase : StoredPhase) (waits : Bool) → (IsTrue waits ↔ (phase ≡ Waiting)) → waits ≡ is_waiting (phase_of phase)

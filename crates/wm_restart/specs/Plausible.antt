@@ -2,8 +2,8 @@
 use Rattle.std.specs.Prelude.{◌≡◌, false}
 use Rattle.wm_desc.specs.declared.objects.Objects.{Objects}
 use Rattle.wm_law.specs.declared.job.JobKind.TheVariants.{Bch}
-use Rattle.wm_job_rows.specs.declared.stored.StoredJob.{StoredJob}
-use Rattle.wm_job_rows.specs.declared.stored.StoredPhase.TheVariants.{Waiting}
+use Rattle.wm_rows.specs.declared.stored_job.StoredJob.{StoredJob}
+use Rattle.wm_rows.specs.declared.stored_job.StoredPhase.TheVariants.{Waiting}
 use Rattle.wm_law.specs.declared.state.State.{State}
 use Rattle.wm_traits.specs.declared.row.Row.{Row}
 use Rattle.wm_tables.specs.Restart.{HasLengths, IsOfKind, Takes, is_used, is_taken}

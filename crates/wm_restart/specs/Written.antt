@@ -10,8 +10,8 @@ use Rattle.wm_law.specs.declared.job.Job.{Job}
 use Rattle.wm_law.specs.declared.job.Phase.TheVariants.{Ended}
 use Rattle.wm_rows.specs.Rows.{command_row}
 use Rattle.wm_rows.specs.Tables.{counter_rows}
-use Rattle.wm_job_rows.specs.JobText.{job_row}
-use Rattle.wm_job_rows.specs.Stored.{stored_of}
+use Rattle.wm_rows.specs.JobText.{job_row}
+use Rattle.wm_rows.specs.Stored.{stored_of}
 use Rattle.wm_tables.specs.Opened.{is_found}
 use Rattle.wm_tables.specs.Tables.{puts}
 

@@ -8,8 +8,8 @@ ghost use Rattle.wm_restart.specs.Written.{with_job, job_changes, Stands};
 use crate::found::is_found;
 use std::alloc::Global;
 use wm_base::{EndCause, NoMemory};
-use wm_job_rows::job_row;
 use wm_law::{Job, Phase};
+use wm_rows::job_row;
 use wm_traits::{Row, RowChange};
 
 fn ended_by_restart(phase: &Phase) -> bool

@@ -2,8 +2,8 @@
 ghost use Rattle.std.specs.Prelude.{◌≡◌, ◌↔◌, IfOk, IsTrue, None, codes};
 ghost use Rattle.wm_desc.specs.Ranges.{request_in_range};
 ghost use Rattle.wm_law.specs.declared.job.JobKind.TheVariants.{Bch};
-ghost use Rattle.wm_job_rows.specs.declared.stored.StoredPhase.TheVariants.{Waiting};
-ghost use Rattle.wm_job_rows.specs.Stored.{IsStored, IsPhase, IsQueue, IsRequest};
+ghost use Rattle.wm_rows.specs.declared.stored_job.StoredPhase.TheVariants.{Waiting};
+ghost use Rattle.wm_rows.specs.Stored.{IsStored, IsPhase, IsQueue, IsRequest};
 ghost use Rattle.wm_tables.specs.Restart.{phase_of, job_of, HasOwnValues, IsOfKind, HasLengths};
 ghost use Rattle.wm_restart.specs.Plausible.{IsPlausible};
 
@@ -11,8 +11,8 @@ use std::alloc::Global;
 use wm_base::{EndCause, How, JobName, NoMemory, QName, Serial, Text};
 use wm_clwords::Request;
 use wm_desc::Objects;
-use wm_job_rows::{StoredJob, StoredPhase};
 use wm_law::{Job, JobKind, Phase, Wish};
+use wm_rows::{StoredJob, StoredPhase};
 
 fn phase_of(phase: StoredPhase) -> Phase
     ensures { result ≡ phase_of phase }

@@ -6,11 +6,10 @@ use std::alloc::Global;
 use std::marker::Model;
 use wm_base::{NoMemory, QName};
 use wm_desc::{Objects, SortedList};
-use wm_job_rows::{StoredJob, read_job};
 use wm_law::{Command, Job, QNames, SbsList};
 use wm_making::change_objects;
 use wm_ordered::Ordered;
-use wm_rows::{Counter, Stored, read_row};
+use wm_rows::{Counter, Stored, StoredJob, read_job, read_row};
 use wm_traits::Row;
 use wm_when::Offset;
 
@@ -75,7 +74,7 @@ impl Reading {
     ghost use Rattle.wm_law.specs.declared.state.State.{State};
     ghost use Rattle.wm_rows.specs.Places.{place_of};
     ghost use Rattle.wm_restart.specs.Parts.{parts_state};
-    ghost use Rattle.wm_job_rows.specs.Stored.{IsPhase};
+    ghost use Rattle.wm_rows.specs.Stored.{IsPhase};
     ghost use Rattle.wm_restart.specs.Plausible.{IsApart, TakesNone};
     ghost use Rattle.wm_tables.specs.Restart.{IsGoodCount, IsGoodJob, Takes, with_counter, with_stored};
 

@@ -14,15 +14,15 @@ use Rattle.wm_turn.specs.Passed.{own}
 use Rattle.wm_turn.proofs.Histories.{own_more, own_none}
 use Rattle.wm_floor.specs.Floor.{Seen}
 use Rattle.wm_floor.specs.Ledger.{behind, caller_of}
-use Rattle.wm_journal.specs.History.{reached}
-use Rattle.wm_monitor.specs.Asking.{AsksFor}
-use Rattle.wm_monitor.specs.Idle.{monitor_pass, NoneIsIdle}
-use Rattle.wm_monitor.specs.Lists.{since}
-use Rattle.wm_monitor.specs.Monitor.{RisesBy, as_reports, call_of, is_own, is_spawner_fault, reported}
-use Rattle.wm_monitor.specs.Scene.{kill_left, IsClear, Spawning}
-use Rattle.wm_monitor.specs.declared.report.Report.{Report}
-use Rattle.wm_monitor.specs.Advance.{added, is_monitors}
-use Rattle.wm_monitor.proofs.Idles.{NoneIsIdle-append, NoneIsIdle-others}
+use Rattle.wm_floor.specs.History.{reached}
+use Rattle.wm_floor.specs.Asking.{AsksFor}
+use Rattle.wm_floor.specs.Idle.{monitor_pass, NoneIsIdle}
+use Rattle.wm_floor.specs.Lists.{since}
+use Rattle.wm_floor.specs.Monitor.{RisesBy, as_reports, call_of, is_own, is_spawner_fault, reported}
+use Rattle.wm_floor.specs.Scene.{kill_left, IsClear, Spawning}
+use Rattle.wm_floor.specs.declared.report.Report.{Report}
+use Rattle.wm_floor.specs.Advance.{added, is_monitors}
+use Rattle.wm_floor.proofs.Idles.{NoneIsIdle-append, NoneIsIdle-others}
 use Rattle.wm_run.specs.Calls.{session_pass}
 use Rattle.wm_run.specs.Run.{IsServed}
 use Rattle.wm_run.specs.Serving.{IsFresh, IsRunning, IsWhole, Serves, is_of_run}

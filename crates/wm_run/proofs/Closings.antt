@@ -6,7 +6,7 @@ use Rattle.wm_turn.specs.Passed.{HasOwn, StartsWith, joining, own}
 use Rattle.wm_turn.proofs.Histories.{starts_again}
 use Rattle.wm_floor.specs.Floor.{HasLooked, IsPassOf, IsSame, Seen}
 use Rattle.wm_floor.specs.Ledger.{caller_of}
-use Rattle.wm_monitor.specs.Idle.{monitor_pass}
+use Rattle.wm_floor.specs.Idle.{monitor_pass}
 use Rattle.wm_run.specs.Calls.{session_pass}
 use Rattle.wm_run.specs.Serving.{IsRunning, IsWhole}
 use Rattle.wm_run.specs.declared.running.Run.{Run}

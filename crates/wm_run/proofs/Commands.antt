@@ -12,8 +12,8 @@ use Rattle.wm_turn.specs.Passed.{own}
 use Rattle.wm_floor.specs.Floor.{Floored, HasLooked, IsPassOf, IsSame, Seen, entry_of}
 use Rattle.wm_floor.specs.Ledger.{caller_of}
 use Rattle.wm_floor.specs.declared.opened.Opened.{Opened}
-use Rattle.wm_monitor.specs.Lists.{since}
-use Rattle.wm_monitor.proofs.Passes.{own_since, since-by}
+use Rattle.wm_floor.specs.Lists.{since}
+use Rattle.wm_floor.proofs.MonitorPasses.{own_since, since-by}
 use Rattle.wm_run.specs.Answer.{with_end, is_power_down, is_refused}
 use Rattle.wm_run.specs.Calls.{Called, MakesCall, session_pass}
 use Rattle.wm_run.specs.Down.{is_down}

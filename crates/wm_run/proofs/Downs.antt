@@ -5,7 +5,7 @@ use Rattle.std.proofs.lemmas.List.Folds.{list_any-append}
 use Rattle.wm_base.proofs.Tests.{or_second}
 use Rattle.wm_law.specs.declared.call.Entry.{Entry}
 use Rattle.wm_law.specs.History.{entries_of}
-use Rattle.wm_journal.specs.History.{History}
+use Rattle.wm_floor.specs.History.{History}
 use Rattle.wm_run.specs.Answer.{is_power_down}
 use Rattle.wm_run.specs.Calls.{session_pass}
 use Rattle.wm_run.specs.Down.{is_down, powers_down}

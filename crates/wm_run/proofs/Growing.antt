@@ -4,15 +4,15 @@ use Rattle.std.proofs.Math.Seq.{drop-length}
 use Rattle.std.proofs.lemmas.List.{append-nil}
 use Rattle.wm_law.specs.declared.call.Entry.{Entry}
 use Rattle.wm_law.specs.declared.state.State.{State}
-use Rattle.wm_journal.specs.History.{History}
+use Rattle.wm_floor.specs.History.{History}
 use Rattle.wm_floor.specs.Floor.{Floored}
 use Rattle.wm_floor.specs.Ledger.{behind}
 use Rattle.wm_turn.specs.Passed.{StartsWith}
-use Rattle.wm_monitor.proofs.Passes.{Extends-by}
+use Rattle.wm_floor.proofs.MonitorPasses.{Extends-by}
 use Rattle.wm_run.specs.Grown.{grown, entries_between, session_of}
 use Rattle.wm_run.specs.declared.running.Run.{Run}
-use Rattle.wm_monitor.specs.Lists.{Extends}
-use Rattle.wm_monitor.proofs.Lists.{since-then, Extends-then}
+use Rattle.wm_floor.specs.Lists.{Extends}
+use Rattle.wm_floor.proofs.Lists.{since-then, Extends-then}
 
 -- a history goes on from another: it was opened with the same state, and has its entries in front
 pub record Continues (old new : History) : Type 0 where

@@ -4,14 +4,14 @@ use Rattle.std.proofs.lemmas.List.{nil_from_length}
 use Rattle.wm_law.specs.declared.call.Entry.{Entry}
 use Rattle.wm_law.specs.declared.pending.Pending.{Pending}
 use Rattle.wm_law.specs.Pending.{orders_left}
-use Rattle.wm_journal.specs.History.{reached}
+use Rattle.wm_floor.specs.History.{reached}
 use Rattle.wm_floor.specs.Floor.{Floored, HasLooked, Seen}
 use Rattle.wm_floor.specs.Ledger.{behind}
-use Rattle.wm_monitor.specs.Idle.{monitor_pass}
-use Rattle.wm_monitor.specs.Monitor.{hands_of}
-use Rattle.wm_monitor.specs.Advance.{added}
-use Rattle.wm_monitor.specs.Turned.{WaitedAt}
-use Rattle.wm_monitor.specs.Lists.{since}
+use Rattle.wm_floor.specs.Idle.{monitor_pass}
+use Rattle.wm_floor.specs.Monitor.{hands_of}
+use Rattle.wm_floor.specs.Advance.{added}
+use Rattle.wm_floor.specs.Turned.{WaitedAt}
+use Rattle.wm_floor.specs.Lists.{since}
 use Rattle.wm_run.specs.Serving.{IsRunning, LeftNoOrder}
 use Rattle.wm_run.specs.declared.running.Run.{Run}
 

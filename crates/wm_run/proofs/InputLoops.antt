@@ -2,7 +2,7 @@
 use Rattle.std.proofs.Common.{◌≡◌, ℕ, ◌≤◌, Bool, false, List, [], length, Option}
 use Rattle.wm_clwords.specs.Part.{Part, fresh}
 use Rattle.wm_law.specs.declared.call.Entry.{Entry}
-use Rattle.wm_journal.specs.History.{History}
+use Rattle.wm_floor.specs.History.{History}
 use Rattle.wm_run.specs.Taking.{TakesPiece}
 
 -- what stays true while the lines of a piece are taken, none of which has put the power down

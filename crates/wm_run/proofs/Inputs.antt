@@ -5,7 +5,7 @@ use Rattle.wm_clwords.specs.Lines.{logical_lines}
 use Rattle.wm_clwords.specs.Part.{Part, fresh, lines_from}
 use Rattle.wm_clwords.proofs.LinesLaw.{lines_from-fresh}
 use Rattle.wm_law.specs.declared.call.Entry.{Entry}
-use Rattle.wm_journal.specs.History.{History}
+use Rattle.wm_floor.specs.History.{History}
 use Rattle.wm_traits.specs.Told.{Takes}
 use Rattle.wm_traits.proofs.Telling.{Takes-none, Takes-then}
 use Rattle.wm_run.specs.Down.{is_down}

@@ -14,7 +14,7 @@ pub mod Listings
 pub mod Outcomes
 pub mod Readies
 pub mod Runs
-pub mod Said
+pub mod LogLines
 pub mod Servings
 pub mod StoppedLines
 pub mod StoppedRuns

@@ -1,8 +1,8 @@
 -- What the history of a run over a store that tells its rows says of chains of runs, and of rows that aren't good.
 use Rattle.std.proofs.Common.{◌≡◌, ℕ, List, [], Option, Some, IfSome, sym, subst, ◌∙◌, inl, inr}
 use Rattle.wm_base.proofs.Tests.{Some-injective}
-use Rattle.wm_chain.specs.Chain.{IsRun}
-use Rattle.wm_chain.specs.Laws.{BadRowsMakeNone}
+use Rattle.wm_tables.specs.Chain.{IsRun}
+use Rattle.wm_tables.specs.ChainLaws.{BadRowsMakeNone}
 use Rattle.wm_law.specs.History.{after}
 use Rattle.wm_law.specs.declared.call.Entry.{Entry}
 use Rattle.wm_tables.specs.Restart.{IsBad, IsRestart}

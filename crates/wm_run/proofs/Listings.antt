@@ -2,7 +2,7 @@
 use Rattle.std.proofs.Common.{◌≡◌, ℕ, Bool, List, sym, ap, subst, ◌∙◌}
 use Rattle.wm_law.specs.declared.command.Ask.{Ask}
 use Rattle.wm_floor.specs.Floor.{Floored, HasLooked, IsPassOf, IsSame}
-use Rattle.wm_monitor.proofs.Passes.{Extends-by}
+use Rattle.wm_floor.proofs.MonitorPasses.{Extends-by}
 use Rattle.wm_run.specs.Grown.{grown, seen_since, session_of}
 use Rattle.wm_run.specs.Reads.{is_read_refused, read_text}
 use Rattle.wm_run.specs.Serving.{IsRunning}

@@ -8,12 +8,12 @@ use Rattle.wm_clwords.specs.Lines.{logical_lines}
 use Rattle.wm_clwords.specs.Part.{Part, fresh, lines_from}
 use Rattle.wm_law.specs.declared.call.Entry.{Entry}
 use Rattle.wm_law.specs.declared.state.State.{State}
-use Rattle.wm_journal.specs.History.{History}
+use Rattle.wm_floor.specs.History.{History}
 use Rattle.wm_traits.specs.Told.{Takes}
 use Rattle.wm_traits.proofs.Telling.{Takes-none}
 use Rattle.wm_run.specs.Down.{is_down}
 use Rattle.wm_run.specs.Grown.{at_opening, entries_between}
-use Rattle.wm_monitor.specs.Lists.{since}
+use Rattle.wm_floor.specs.Lists.{since}
 use Rattle.wm_run.specs.Outcome.{AnswersEnded, LinesCame, RunCame, RunTakes, SessionCame}
 use Rattle.wm_run.specs.Run.{ended_status}
 use Rattle.wm_run.specs.Session.{Answers, AnsweredBy, Closes, IsUncalled, OneCall, start_call}

@@ -6,8 +6,8 @@ use Rattle.wm_turn.specs.Passed.{StartsWith, own}
 use Rattle.wm_turn.proofs.Histories.{starts_again, starts_itself}
 use Rattle.wm_floor.specs.Floor.{Floored, HasLooked, IsPassOf, IsSame, Seen}
 use Rattle.wm_floor.specs.Ledger.{caller_of}
-use Rattle.wm_monitor.specs.Lists.{since, Extends}
-use Rattle.wm_monitor.proofs.Lists.{since-then}
+use Rattle.wm_floor.specs.Lists.{since, Extends}
+use Rattle.wm_floor.proofs.Lists.{since-then}
 use Rattle.wm_run.specs.Calls.{MakesCall, session_pass}
 use Rattle.wm_run.specs.Grown.{seen_since}
 use Rattle.wm_run.specs.Serving.{HasWatched, IsRunning}

@@ -4,7 +4,7 @@ use Rattle.std.specs.Io.KnownBytes.{IsAtEnd}
 use Rattle.std.specs.Prelude.{◌↔◌, if◌then◌else◌, IfOk, OnErr, IsErrOf}
 use Rattle.wm_clwords.specs.Lines.{logical_lines}
 use Rattle.wm_law.specs.declared.call.Entry.{Entry}
-use Rattle.wm_journal.specs.History.{History}
+use Rattle.wm_floor.specs.History.{History}
 use Rattle.wm_traits.proofs.Telling.{Grows-none, Takes-none}
 use Rattle.wm_run.specs.Halt.{status_of}
 use Rattle.wm_run.specs.Run.{ended_status}

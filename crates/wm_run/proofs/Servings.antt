@@ -6,13 +6,13 @@ use Rattle.wm_law.specs.declared.call.Reply.{Reply}
 use Rattle.wm_turn.specs.Passed.{StartsWith}
 use Rattle.wm_floor.specs.Floor.{Floored, HasLooked, IsPassOf, IsSame, Seen, entry_of}
 use Rattle.wm_floor.specs.declared.opened.Opened.{Opened}
-use Rattle.wm_monitor.specs.Lists.{Extends}
-use Rattle.wm_monitor.proofs.Lists.{Extends-then}
-use Rattle.wm_monitor.specs.Attends.{Attends}
-use Rattle.wm_monitor.specs.Scene.{Spawning, scene}
-use Rattle.wm_monitor.specs.declared.monitor.Monitor.{Monitor}
-use Rattle.wm_monitor.proofs.Attending.{attends_looked, attends_none, attends_then}
-use Rattle.wm_monitor.proofs.Passes.{Extends-by}
+use Rattle.wm_floor.specs.Lists.{Extends}
+use Rattle.wm_floor.proofs.Lists.{Extends-then}
+use Rattle.wm_floor.specs.Attends.{Attends}
+use Rattle.wm_floor.specs.Scene.{Spawning, scene}
+use Rattle.wm_floor.specs.declared.monitor.Monitor.{Monitor}
+use Rattle.wm_floor.proofs.Attending.{attends_looked, attends_none, attends_then}
+use Rattle.wm_floor.proofs.MonitorPasses.{Extends-by}
 use Rattle.wm_run.specs.Calls.{Called}
 use Rattle.wm_run.specs.Grown.{session_of}
 use Rattle.wm_run.specs.Serving.{IsRunning, PassGoesOn, Serves}

@@ -4,7 +4,7 @@ use Rattle.std.proofs.Math.Seq.{take-add, take-length}
 use Rattle.std.proofs.lemmas.List.{append-nil, take_at}
 use Rattle.wm_clwords.specs.Part.{Part, lines_from}
 use Rattle.wm_law.specs.declared.call.Entry.{Entry}
-use Rattle.wm_journal.specs.History.{History}
+use Rattle.wm_floor.specs.History.{History}
 use Rattle.wm_traits.specs.Told.{Grows}
 use Rattle.wm_traits.proofs.Telling.{Grows-none, Grows-then}
 use Rattle.wm_run.specs.Down.{is_down}
@@ -12,7 +12,7 @@ use Rattle.wm_run.specs.Grown.{grown}
 use Rattle.wm_run.specs.Session.{Answers, AnswersLine, AnsweredBy}
 use Rattle.wm_run.specs.Stopped.{IsCutShort, StopsIn, Unanswered}
 use Rattle.wm_run.specs.Taking.{TakesPiece}
-use Rattle.wm_monitor.proofs.Lists.{since-append}
+use Rattle.wm_floor.proofs.Lists.{since-append}
 use Rattle.wm_run.proofs.Takings.{Answers-append, Answers-one}
 
 take-append : (xs ys : List ℕ) (n : ℕ) → take (length xs + n) (xs ++ ys) ≡ xs ++ take n ys

@@ -9,7 +9,7 @@ use Rattle.wm_clwords.specs.Part.{Part, fresh, lines_from}
 use Rattle.wm_clwords.proofs.LinesLaw.{lines_from-fresh}
 use Rattle.wm_law.specs.declared.call.Entry.{Entry}
 use Rattle.wm_law.specs.History.{entries_of}
-use Rattle.wm_journal.specs.History.{History}
+use Rattle.wm_floor.specs.History.{History}
 use Rattle.wm_traits.specs.Told.{Grows, Takes}
 use Rattle.wm_traits.proofs.Telling.{Grows-none, Takes-none, Takes-then}
 use Rattle.wm_run.specs.Down.{is_down}

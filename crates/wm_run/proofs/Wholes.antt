@@ -7,14 +7,14 @@ use Rattle.wm_law.specs.declared.call.Reply.{Reply}
 use Rattle.wm_law.specs.Pending.{busy}
 use Rattle.wm_turn.specs.Passed.{StartsWith, own}
 use Rattle.wm_turn.proofs.Histories.{fronts, nothing, own_here, own_more, starts_again}
-use Rattle.wm_journal.specs.History.{reached}
+use Rattle.wm_floor.specs.History.{reached}
 use Rattle.wm_floor.specs.Floor.{Floored, HasLooked, Seen, entry_of}
 use Rattle.wm_floor.specs.Ledger.{behind, caller_of}
 use Rattle.wm_floor.specs.declared.opened.Opened.{Opened}
-use Rattle.wm_monitor.specs.Idle.{monitor_pass}
-use Rattle.wm_monitor.specs.Lists.{since, Extends}
-use Rattle.wm_monitor.proofs.Lists.{since-then}
-use Rattle.wm_monitor.proofs.Passes.{Extends-by, since-by}
+use Rattle.wm_floor.specs.Idle.{monitor_pass}
+use Rattle.wm_floor.specs.Lists.{since, Extends}
+use Rattle.wm_floor.proofs.Lists.{since-then}
+use Rattle.wm_floor.proofs.MonitorPasses.{Extends-by, since-by}
 use Rattle.wm_run.specs.Calls.{Called, session_pass}
 use Rattle.wm_run.specs.Grown.{session_of}
 use Rattle.wm_run.specs.Serving.{IsFresh, IsHistory, IsRunning, IsWhole}

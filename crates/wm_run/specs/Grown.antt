@@ -1,9 +1,9 @@
 -- Histories that grow: where one begins, what it has grown by, and how much of one the session has seen.
 use Rattle.std.specs.Prelude.{List, [], ◌++◌}
-use Rattle.wm_journal.specs.History.{History}
+use Rattle.wm_floor.specs.History.{History}
 use Rattle.wm_law.specs.declared.call.Entry.{Entry}
 use Rattle.wm_law.specs.declared.state.State.{State}
-use Rattle.wm_monitor.specs.Lists.{since}
+use Rattle.wm_floor.specs.Lists.{since}
 use Rattle.wm_floor.specs.Ledger.{behind}
 use Rattle.wm_run.specs.declared.running.Run.{Run}
 

@@ -1,11 +1,11 @@
 -- Why a run ends early, and with which status.
 use Rattle.std.specs.Prelude.{◌≡◌, ℕ, ◌+◌, ◌≤◌, max, length, Option, None, Result, IsErrOf}
 use Rattle.wm_traits.specs.Cause.{raised}
-use Rattle.wm_journal.specs.declared.call_fault.CallFault.{CallFault}
-use Rattle.wm_journal.specs.declared.call_fault.CallFault.TheVariants as call
-use Rattle.wm_monitor.specs.declared.fault.MonitorFault.{MonitorFault}
-use Rattle.wm_monitor.specs.declared.fault.MonitorFault.TheVariants as monitor
-use Rattle.wm_monitor.specs.declared.report.Report.{Report}
+use Rattle.wm_floor.specs.declared.call_fault.CallFault.{CallFault}
+use Rattle.wm_floor.specs.declared.call_fault.CallFault.TheVariants as call
+use Rattle.wm_floor.specs.declared.monitor_fault.MonitorFault.{MonitorFault}
+use Rattle.wm_floor.specs.declared.monitor_fault.MonitorFault.TheVariants as monitor
+use Rattle.wm_floor.specs.declared.report.Report.{Report}
 use Rattle.wm_run.specs.declared.running.Run.{Run}
 use Rattle.wm_run.specs.declared.halt.Halt.{Halt}
 use Rattle.wm_run.specs.declared.halt.Halt.TheVariants.{ReadFault, WriteFault, KeeperFault, NoMemory, LogFull, WaitFault, InputFull}

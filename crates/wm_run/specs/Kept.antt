@@ -1,7 +1,7 @@
 -- What a run makes of the rows that it finds, and leaves of them.
 use Rattle.std.specs.Prelude.{◌≡◌, ◌⊎◌, ℕ, ℤ, ◌≤◌, true, List, [], ◌∷◌, Option, Some, IfSome, nat_eq}
 use Rattle.std.specs.List.{list_any}
-use Rattle.wm_journal.specs.Trail.{HasTrail}
+use Rattle.wm_floor.specs.Trail.{HasTrail}
 use Rattle.wm_law.specs.History.{after, IsLegal}
 use Rattle.wm_law.specs.Limits.{KeepsLimits}
 use Rattle.wm_law.specs.Maxuse.{KeepsUses}
@@ -12,12 +12,12 @@ use Rattle.wm_law.specs.declared.state.State.{State}
 use Rattle.wm_traits.specs.declared.fault.KeepFault.{KeepFault}
 use Rattle.wm_traits.specs.declared.fault.KeepFault.TheVariants as keep
 use Rattle.wm_traits.specs.declared.row.Row.{Row}
-use Rattle.wm_monitor.specs.Idle.{monitor_pass, NoneIsIdle}
-use Rattle.wm_journal.specs.Keeping.{Telling, IsLeft}
-use Rattle.wm_journal.specs.Stored.{HasTables}
-use Rattle.wm_journal.specs.declared.open_fault.OpenFault.{OpenFault}
-use Rattle.wm_journal.specs.declared.open_fault.OpenFault.TheVariants as open_fault
-use Rattle.wm_chain.specs.Starts.{StartsOnce}
+use Rattle.wm_floor.specs.Idle.{monitor_pass, NoneIsIdle}
+use Rattle.wm_floor.specs.Keeping.{Telling, IsLeft}
+use Rattle.wm_floor.specs.Stored.{HasTables}
+use Rattle.wm_floor.specs.declared.open_fault.OpenFault.{OpenFault}
+use Rattle.wm_floor.specs.declared.open_fault.OpenFault.TheVariants as open_fault
+use Rattle.wm_tables.specs.Starts.{StartsOnce}
 use Rattle.wm_tables.specs.Restart.{IsBad, IsRestart}
 
 -- a run that opened: its history is one from a state of the rows that it found, where local time is so far ahead of UTC
@@ -39,7 +39,7 @@ pub record HasOpened (offset : ℤ) (status : ℕ) (log : List Entry) (old new :
   -- and this is what came of the input
   pub came : Came opened
 
--- the statuses of a run that didn't open
+-- the statuses of a run, or of a server, that didn't open
 abbrev pub unopened_statuses : List ℕ
 unopened_statuses = 2 ∷ 5 ∷ 6 ∷ 9 ∷ []
 
@@ -63,12 +63,12 @@ HasHistory offset status log old new Came = HasOpened offset status log old new 
 abbrev pub HasBadRow : ℤ → Option (List Row) → Option (List Row) → Type 0
 HasBadRow offset old new = IfSome new (λ rows. (old ≡ Some rows) × ((n : ℕ) × IsBad offset rows n))
 
--- the status of a run whose store gave no keeper
+-- the status of a run, or of a server, whose store gave no keeper
 abbrev pub store_status : KeepFault → ℕ
 store_status keep.Failed = 5
 store_status keep.NoMemory = 6
 
--- the status of a run whose machine didn't open with the rows
+-- the status of a run, or of a server, whose machine didn't open with the rows
 abbrev pub open_status : OpenFault → ℕ
 open_status open_fault.KeeperFault = 5
 open_status (open_fault.BadRow n) = 9

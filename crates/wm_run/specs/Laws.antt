@@ -1,7 +1,7 @@
 -- What follows from the history of a run, whatever it took of its input and wrote.
 use Rattle.std.specs.Prelude.{◌≡◌, ℕ, List, [], Option, Some}
-use Rattle.wm_chain.specs.Chain.{IsRun}
-use Rattle.wm_journal.specs.Keeping.{Telling}
+use Rattle.wm_tables.specs.Chain.{IsRun}
+use Rattle.wm_floor.specs.Keeping.{Telling}
 use Rattle.wm_law.specs.declared.call.Entry.{Entry}
 use Rattle.wm_tables.specs.Restart.{IsBad}
 use Rattle.wm_traits.specs.declared.row.Row.{Row}

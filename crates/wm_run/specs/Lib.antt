@@ -10,7 +10,6 @@ pub mod Outcome
 pub mod Parsed
 pub mod Reads
 pub mod Run
-pub mod Sayings
 pub mod Serving
 pub mod Session
 pub mod Stopped

@@ -3,7 +3,7 @@ use Rattle.std.specs.Prelude.{◌≡◌, ◌↔◌, ℕ, ◌<◌, ◌≤◌, ◌
 use Rattle.wm_clwords.specs.Lines.{logical_lines}
 use Rattle.wm_law.specs.declared.call.Entry.{Entry}
 use Rattle.wm_law.specs.declared.state.State.{State}
-use Rattle.wm_journal.specs.History.{History}
+use Rattle.wm_floor.specs.History.{History}
 use Rattle.wm_run.specs.Grown.{at_opening, grown}
 use Rattle.wm_run.specs.Session.{Answers, AnsweredBy, IsSession, OneCall, start_call}
 use Rattle.wm_run.specs.Stopped.{IsStopped, StopsIn}

@@ -1,6 +1,6 @@
 -- What a reading command is answered: a listing of the state that the history reaches.
 use Rattle.std.specs.Prelude.{ℕ, Bool, true, false, List, if◌then◌else◌}
-use Rattle.wm_journal.specs.History.{History, reached}
+use Rattle.wm_floor.specs.History.{History, reached}
 use Rattle.wm_law.specs.declared.command.Ask.{Ask}
 use Rattle.wm_law.specs.declared.command.Ask.TheVariants.{Active, Queue, Submitted, Subsystems, Job, Log, Pending}
 use Rattle.wm_listing.specs.Listing.{listing_text}

@@ -6,11 +6,11 @@ use Rattle.wm_law.specs.declared.call.Entry.{Entry}
 use Rattle.wm_law.specs.History.{orders}
 use Rattle.wm_traits.specs.declared.spawner.Told.{Told}
 use Rattle.wm_traits.specs.Told.{Grows}
-use Rattle.wm_monitor.specs.Asking.{AsksFor}
-use Rattle.wm_monitor.specs.Idle.{monitor_pass}
-use Rattle.wm_monitor.specs.Monitor.{RisesBy, as_reports, reported, is_spawner_fault}
+use Rattle.wm_floor.specs.Asking.{AsksFor}
+use Rattle.wm_floor.specs.Idle.{monitor_pass}
+use Rattle.wm_floor.specs.Monitor.{RisesBy, as_reports, reported, is_spawner_fault}
 use Rattle.wm_run.specs.Halt.{status_of}
-use Rattle.wm_monitor.specs.declared.report.Report.{Report}
+use Rattle.wm_floor.specs.declared.report.Report.{Report}
 use Rattle.wm_run.specs.declared.halt.Halt.{Halt}
 
 -- the status of a session's end: 0, or 1 where a line got a fault or a refusal

@@ -5,14 +5,14 @@ use Rattle.wm_law.specs.declared.call.Entry.{Entry}
 use Rattle.wm_law.specs.Pending.{orders_left}
 use Rattle.wm_traits.specs.declared.spawner.Told.{Told}
 use Rattle.wm_turn.specs.Passed.{StartsWith, own}
-use Rattle.wm_journal.specs.History.{reached}
+use Rattle.wm_floor.specs.History.{reached}
 use Rattle.wm_floor.specs.Floor.{IsPassOf, IsSame, Seen}
 use Rattle.wm_floor.specs.Ledger.{behind, caller_of}
-use Rattle.wm_monitor.specs.Idle.{monitor_pass}
-use Rattle.wm_monitor.specs.Lists.{Extends}
-use Rattle.wm_monitor.specs.Monitor.{is_own}
-use Rattle.wm_monitor.specs.Attends.{Attends}
-use Rattle.wm_monitor.specs.Scene.{Spawning, scene, spawner_seen}
+use Rattle.wm_floor.specs.Idle.{monitor_pass}
+use Rattle.wm_floor.specs.Lists.{Extends}
+use Rattle.wm_floor.specs.Monitor.{is_own}
+use Rattle.wm_floor.specs.Attends.{Attends}
+use Rattle.wm_floor.specs.Scene.{Spawning, scene, spawner_seen}
 use Rattle.wm_run.specs.Calls.{session_pass}
 use Rattle.wm_run.specs.declared.running.Run.{Run}
 

@@ -10,7 +10,7 @@ use Rattle.wm_law.specs.declared.call.Entry.{Entry}
 use Rattle.wm_law.specs.declared.command.Ask.{Ask}
 use Rattle.wm_law.specs.History.{entries_of}
 use Rattle.wm_law.specs.Pending.{busy}
-use Rattle.wm_journal.specs.History.{History, reached}
+use Rattle.wm_floor.specs.History.{History, reached}
 use Rattle.wm_base.specs.declared.qname.QName.{QName}
 use Rattle.wm_clwords.specs.declared.fault.ClFault.TheVariants.{TooLong}
 use Rattle.wm_traits.specs.Told.{Grows}

@@ -2,7 +2,7 @@
 use Rattle.std.specs.Prelude.{◌≡◌, ◌↔◌, ℕ, ◌+◌, ◌<◌, Bool, false, List, [], ◌++◌, length, Option, Result, IsErrOf}
 use Rattle.wm_clwords.specs.Part.{Part, lines_from}
 use Rattle.wm_law.specs.declared.call.Entry.{Entry}
-use Rattle.wm_journal.specs.History.{History}
+use Rattle.wm_floor.specs.History.{History}
 use Rattle.wm_traits.specs.Told.{Takes}
 use Rattle.wm_run.specs.Session.{Answers, AnsweredBy}
 use Rattle.wm_run.specs.declared.halt.Halt.{Halt}

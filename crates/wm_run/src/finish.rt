@@ -8,7 +8,6 @@ use std::sync::Wait;
 use wm_base::QName;
 use wm_floor::Waiting;
 use wm_law::Pending;
-use wm_monitor::MONITOR;
 use wm_traits::{Clock, Keeper, Spawner};
 
 /// The active jobs whose end is waited for.
@@ -39,13 +38,13 @@ impl<K: Keeper> Run<K> {
     ghost use Rattle.std.specs.Prelude.{◌≡◌, ◌<◌, ◌≤◌, List, IfOk, OnOk, OnErr, IsErrOf, None, length, min};
     ghost use Rattle.wm_law.specs.Pending.{pending};
     ghost use Rattle.wm_law.specs.declared.call.Entry.{Entry};
-    ghost use Rattle.wm_journal.specs.History.{reached};
-    ghost use Rattle.wm_floor.specs.Floor.{HasLooked, IsSame};
+    ghost use Rattle.wm_floor.specs.History.{reached};
+    ghost use Rattle.wm_floor.specs.Floor.{HasLooked, IsSame, Waits};
     ghost use Rattle.wm_floor.specs.Ledger.{behind};
-    ghost use Rattle.wm_monitor.specs.Idle.{monitor_pass};
-    ghost use Rattle.wm_monitor.specs.Lists.{since};
-    ghost use Rattle.wm_monitor.specs.Advance.{added};
-    ghost use Rattle.wm_monitor.specs.Scene.{IsClear, Spawning};
+    ghost use Rattle.wm_floor.specs.Idle.{monitor_pass};
+    ghost use Rattle.wm_floor.specs.Lists.{since};
+    ghost use Rattle.wm_floor.specs.Advance.{added};
+    ghost use Rattle.wm_floor.specs.Scene.{IsClear, Spawning};
     ghost use Rattle.wm_traits.specs.Told.{IsEmpty};
     ghost use Rattle.wm_run.specs.Awaited.{jobs_left};
     ghost use Rattle.wm_run.specs.Grown.{seen_since, session_of};
@@ -74,7 +73,8 @@ impl<K: Keeper> Run<K> {
         ensures log_full { IsErrOf result Halt.LogFull → 4000000 ≤ length self.new.watch.seen }
     {
         'turns: for _ in rt.forever() {
-            let turned = self.turn(rt, alloc, spawner, clock)?;
+            let waiting = self.waiting(rt);
+            let turned = self.turn(rt, alloc, spawner, clock, waiting)?;
             if turned.sent == 0 {
                 return Ok(());
             }
@@ -90,10 +90,11 @@ impl<K: Keeper> Run<K> {
         ensures session { self.new.session ≡ self.old.session }
         ensures serves { (s : Spawning) → Serves self.old self.new s s }
         ensures monitor { self.new.monitor ≡ self.old.monitor }
+        ensures waits { Waits self.new.floor self.new.watch result }
         ensures at { result.at ≡ length self.new.watch.seen }
         ensures pending { result.pending ≡ pending (reached (behind self.new.floor.opening self.new.watch.seen)) monitor_pass }
     {
-        self.floor.pending(rt, &mut self.watch, MONITOR)
+        self.floor.waiting(rt, &mut self.watch)
     }
 
     // Turns and waits until none of these jobs is active. It answers behind how many entries.
@@ -151,8 +152,8 @@ impl<K: Keeper> Run<K> {
         ensures full { IsErrOf result Halt.LogFull → length self.new.watch.seen < 4000000 → KeepsNone self.old.monitor.kept self.new.monitor.kept }
     {
         let start = start_call(alloc, ctl)?;
-        self.call(rt, alloc, clock, start)?;
-        self.turn(rt, alloc, spawner, clock)?;
+        let (_, waiting) = self.call(rt, alloc, clock, start)?;
+        self.turn(rt, alloc, spawner, clock, waiting)?;
         Ok(())
     }
 

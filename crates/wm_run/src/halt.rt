@@ -3,8 +3,7 @@ ghost use Rattle.std.specs.Prelude.{◌≡◌};
 ghost use Rattle.wm_run.specs.declared.halt.Halt.TheVariants.{NoMemory};
 
 use std::alloc::{AllocError, AllocFailed};
-use wm_journal::CallFault;
-use wm_monitor::MonitorFault;
+use wm_floor::{CallFault, MonitorFault};
 
 /// Why a run ends early.
 #[derive(Clone, Copy)]

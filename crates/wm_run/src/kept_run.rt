@@ -2,16 +2,16 @@
 ghost use Rattle.std.specs.Prelude.{◌≡◌, ◌≢◌, ◌<◌, ◌≤◌, ℕ, None, OnOk, [], length, option_to_list, true};
 ghost use Rattle.std.specs.List.{list_all};
 ghost use Rattle.wm_traits.specs.Cause.{raised};
-ghost use Rattle.wm_run.specs.Kept.{HasBadRow, HasHistory, open_status};
+ghost use Rattle.wm_run.specs.Kept.{HasBadRow, HasHistory};
 ghost use Rattle.wm_run.specs.Outcome.{RunTakes};
 ghost use Rattle.wm_run.specs.Run.{IsRunStatus, IsServed, ended_status};
 ghost use Rattle.wm_run.specs.Serving.{is_of_run};
 ghost use Rattle.wm_law.specs.History.{IsLegal};
 ghost use Rattle.wm_law.specs.Pending.{active};
-ghost use Rattle.wm_journal.specs.History.{reached};
-ghost use Rattle.wm_journal.specs.Keeping.{telling};
-ghost use Rattle.wm_journal.specs.Stored.{HasTables};
-ghost use Rattle.wm_journal.specs.Trail.{HasTrail};
+ghost use Rattle.wm_floor.specs.History.{reached};
+ghost use Rattle.wm_floor.specs.Keeping.{telling};
+ghost use Rattle.wm_floor.specs.Stored.{HasTables};
+ghost use Rattle.wm_floor.specs.Trail.{HasTrail};
 ghost use Rattle.wm_turn.specs.Passed.{HasOwn, own};
 ghost use Rattle.wm_floor.specs.Floor.{HasLooked, IsPassOf, IsSame};
 ghost use Rattle.wm_floor.specs.Ledger.{behind, caller_of};
@@ -19,14 +19,12 @@ ghost use Rattle.wm_floor.specs.Ledger.{behind, caller_of};
 use crate::halt::Halt;
 use crate::running::Run;
 use crate::settings::Settings;
+use crate::statuses::open_status;
 use crate::whole_run::{Ran, not_begun};
-use crate::words::NO_MEMORY;
 use std::alloc::Global;
 use std::sync::Wait;
 use wm_core::Setup;
-use wm_floor::{Closed, Floor, FloorPass};
-use wm_journal::OpenFault;
-use wm_monitor::{MONITOR, Monitor, Report};
+use wm_floor::{Closed, Floor, FloorPass, MONITOR, Monitor, OpenFault, Report};
 use wm_traits::{Clock, Keeper, Sink, Source, Spawner};
 
 // What a machine opens with.
@@ -51,31 +49,20 @@ fn ended_status(end: Result<bool, Halt>) -> u8
     }
 }
 
-// The status of a run whose machine didn't open with the rows.
-fn open_status(fault: &OpenFault) -> u8
-    ensures { result ≡ open_status fault.now }
-{
-    match fault {
-        OpenFault::KeeperFault => 5,
-        OpenFault::BadRow(_) => 9,
-        OpenFault::NoMemory => NO_MEMORY,
-    }
-}
-
 impl<K: Keeper> Run<K> {
     ghost use Rattle.std.specs.Prelude.{◌≡◌, ◌≢◌, ◌<◌, ◌≤◌, List, [], IfOk, IfErr, OnOk, None, IsErrOf, length, min};
     ghost use Rattle.wm_law.specs.History.{IsLegal};
     ghost use Rattle.wm_law.specs.Pending.{active};
     ghost use Rattle.wm_law.specs.declared.call.Entry.{Entry};
-    ghost use Rattle.wm_journal.specs.History.{reached};
-    ghost use Rattle.wm_journal.specs.Keeping.{telling, IsOpened};
-    ghost use Rattle.wm_journal.specs.OpenFaults.{IsCounted, NamesBad};
-    ghost use Rattle.wm_journal.specs.Stored.{HasTables};
-    ghost use Rattle.wm_journal.specs.Trail.{HasTrail};
+    ghost use Rattle.wm_floor.specs.History.{reached};
+    ghost use Rattle.wm_floor.specs.Keeping.{telling, IsOpened};
+    ghost use Rattle.wm_floor.specs.OpenFaults.{IsCounted, NamesBad};
+    ghost use Rattle.wm_floor.specs.Stored.{HasTables};
+    ghost use Rattle.wm_floor.specs.Trail.{HasTrail};
     ghost use Rattle.wm_floor.specs.Floor.{IsLeftOrOpened};
     ghost use Rattle.wm_floor.specs.Ledger.{behind};
-    ghost use Rattle.wm_monitor.specs.Scene.{IsClear};
-    ghost use Rattle.wm_monitor.specs.Lists.{since};
+    ghost use Rattle.wm_floor.specs.Scene.{IsClear};
+    ghost use Rattle.wm_floor.specs.Lists.{since};
     ghost use Rattle.wm_run.specs.Grown.{session_of};
     ghost use Rattle.wm_run.specs.Halt.{HasFloorCauses, HasInputCauses, KeepsNone};
     ghost use Rattle.wm_run.specs.Outcome.{SessionCame};
@@ -201,10 +188,10 @@ impl<K: Keeper> Run<K> {
     ghost use Rattle.std.specs.Prelude.{◌≡◌, ◌≢◌, ◌≤◌, [], OnOk, None};
     ghost use Rattle.wm_law.specs.History.{IsLegal};
     ghost use Rattle.wm_law.specs.Pending.{active};
-    ghost use Rattle.wm_journal.specs.History.{reached};
-    ghost use Rattle.wm_journal.specs.Keeping.{telling};
-    ghost use Rattle.wm_journal.specs.Stored.{HasTables};
-    ghost use Rattle.wm_journal.specs.Trail.{HasTrail};
+    ghost use Rattle.wm_floor.specs.History.{reached};
+    ghost use Rattle.wm_floor.specs.Keeping.{telling};
+    ghost use Rattle.wm_floor.specs.Stored.{HasTables};
+    ghost use Rattle.wm_floor.specs.Trail.{HasTrail};
     ghost use Rattle.wm_floor.specs.Ledger.{behind};
     ghost use Rattle.wm_run.specs.Serving.{IsRunning, IsWhole};
 

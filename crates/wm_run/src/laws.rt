@@ -1,7 +1,7 @@
 // What follows from the history of a run. They are no calls.
 ghost use Rattle.wm_run.specs.Laws.{BadRowsDontOpen, RunsMakeChains};
 
-use wm_chain::bad_rows_make_no_state;
+use wm_tables::bad_rows_make_no_state;
 
 /// The runs over one store that tells its rows make a chain, from the rows that each finds to those that it leaves. So no job
 /// is started twice in all of them.

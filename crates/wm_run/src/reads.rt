@@ -24,7 +24,7 @@ fn is_no(shown: &Shown) -> bool
 impl<K: Keeper> Run<K> {
     ghost use Rattle.std.specs.Prelude.{◌≡◌, ◌≤◌, false, IfOk, OnErr, IsErrOf};
     ghost use Rattle.wm_floor.specs.Floor.{HasLooked, IsSame};
-    ghost use Rattle.wm_monitor.specs.Scene.{Spawning};
+    ghost use Rattle.wm_floor.specs.Scene.{Spawning};
     ghost use Rattle.wm_traits.specs.Cause.{raised};
     ghost use Rattle.wm_run.specs.Grown.{seen_since, session_of};
     ghost use Rattle.wm_run.specs.Reads.{read_text, is_read_refused};

@@ -1,6 +1,5 @@
 // What a run has.
-use wm_floor::{Floor, FloorPass};
-use wm_monitor::Monitor;
+use wm_floor::{Floor, FloorPass, Monitor};
 use wm_traits::Keeper;
 
 /// The floor of a run, the session's pass of it, the monitor's, and the monitor.

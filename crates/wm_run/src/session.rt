@@ -1,11 +1,9 @@
 // The session's calls and answers, and the monitor's turns between them.
 ghost use Rattle.std.specs.Prelude.{◌≡◌, ◌≤◌, ℕ, Err, IfOk, OnOk, OnErr, IsErrOf, take};
-ghost use Rattle.wm_law.specs.declared.command.Command.{Command};
-ghost use Rattle.wm_listing.specs.Said.{said_text};
+ghost use Rattle.wm_listing.specs.Said.{said_of};
 ghost use Rattle.wm_traits.specs.Told.{Grows};
 ghost use Rattle.wm_traits.specs.Cause.{raised};
 ghost use Rattle.wm_run.specs.Answer.{is_power_down, is_refused, with_end};
-ghost use Rattle.wm_run.specs.Sayings.{AreOf};
 
 use crate::answer::{fault_answer, is_fault, is_power_down, is_refused, with_end};
 use crate::answered::Answered;
@@ -14,18 +12,15 @@ use crate::halt::Halt;
 use crate::parse::parse_line;
 use crate::parsed::Parsed;
 use crate::running::Run;
-use crate::saying::{line_of, sayings_of};
-use crate::sayings::Sayings;
 use crate::seeing::see;
 use crate::write::write_all;
 use std::alloc::Global;
 use std::sync::Wait;
 use wm_base::{Moment, Name};
 use wm_clwords::ClFault;
-use wm_floor::Waiting;
+use wm_floor::{Turned, Waiting};
 use wm_law::{Call, Command, Reply};
-use wm_listing::LineFault;
-use wm_monitor::Turned;
+use wm_listing::{LineFault, Mention, mention_of, said};
 use wm_traits::{Clock, Keeper, Sink, Spawner};
 
 // Writes, and tells a fault as the run's.
@@ -46,13 +41,13 @@ pub(crate) fn put<O: Sink>(out: &mut O, bytes: &[u8]) -> Result<(), Halt>
 fn say<O: Sink>(
     alloc: Global,
     out: &mut O,
-    sayings: &Sayings,
+    mention: &Mention,
     reply: &Reply,
 ) -> Result<Answered, Halt>
-    ensures ok { OnOk result ((c : Command) → AreOf c sayings.now → Grows (O.written out.old) (O.written out.new) (with_end (said_text c reply.now))) }
+    ensures ok { OnOk result (Grows (O.written out.old) (O.written out.new) (with_end (said_of mention.now reply.now))) }
     ensures faulty { IfOk result (λ r. r.faulty ≡ is_refused reply.now) }
     ensures down { IfOk result (λ r. r.down ≡ is_power_down reply.now) }
-    ensures some { OnErr result ((c : Command) → AreOf c sayings.now → (n : ℕ) × Grows (O.written out.old) (O.written out.new) (take n (with_end (said_text c reply.now)))) }
+    ensures some { OnErr result ((n : ℕ) × Grows (O.written out.old) (O.written out.new) (take n (with_end (said_of mention.now reply.now)))) }
     ensures faults { O.faults out.old ≤ O.faults out.new }
     ensures write_fault { IsErrOf result Halt.WriteFault → raised (O.faults out.old) ≤ O.faults out.new }
     ensures no_wait { IsErrOf result Halt.WaitFault → ⊥ }
@@ -61,7 +56,7 @@ fn say<O: Sink>(
     ensures no_keeper { IsErrOf result Halt.KeeperFault → ⊥ }
     ensures no_log { IsErrOf result Halt.LogFull → ⊥ }
 {
-    let line = with_end(line_of(alloc, sayings, reply)?)?;
+    let line = with_end(said(alloc, mention, reply)?)?;
     put(out, line.as_bytes())?;
     Ok(Answered {
         faulty: is_refused(reply),
@@ -75,14 +70,14 @@ impl<K: Keeper> Run<K> {
     ghost use Rattle.wm_law.specs.Fit.{IsCall, IsCommand};
     ghost use Rattle.wm_traits.specs.Told.{Grows, IsEmpty};
     ghost use Rattle.wm_law.specs.Pending.{next_moment, pending};
-    ghost use Rattle.wm_journal.specs.History.{reached};
-    ghost use Rattle.wm_floor.specs.Floor.{HasLooked, IsPassOf, IsSame};
+    ghost use Rattle.wm_floor.specs.History.{reached};
+    ghost use Rattle.wm_floor.specs.Floor.{HasLooked, IsPassOf, IsSame, Waits};
     ghost use Rattle.wm_floor.specs.Ledger.{behind};
-    ghost use Rattle.wm_monitor.specs.Idle.{monitor_pass};
-    ghost use Rattle.wm_monitor.specs.Monitor.{hands_of};
-    ghost use Rattle.wm_monitor.specs.Advance.{added};
-    ghost use Rattle.wm_monitor.specs.Scene.{IsClear, Spawning};
-    ghost use Rattle.wm_monitor.specs.Turned.{HadNothing, WaitedAt};
+    ghost use Rattle.wm_floor.specs.Idle.{monitor_pass};
+    ghost use Rattle.wm_floor.specs.Monitor.{hands_of};
+    ghost use Rattle.wm_floor.specs.Advance.{added};
+    ghost use Rattle.wm_floor.specs.Scene.{IsClear, Spawning};
+    ghost use Rattle.wm_floor.specs.Turned.{HadNothing, WaitedAt};
     ghost use Rattle.wm_run.specs.Calls.{Called, MakesCall};
     ghost use Rattle.wm_run.specs.Down.{is_down};
     ghost use Rattle.wm_run.specs.Grown.{seen_since, session_of};
@@ -124,22 +119,24 @@ impl<K: Keeper> Run<K> {
         }
     }
 
-    // Makes one call of the session, which the monitor has then seen. An `Err` makes no entry.
+    // Makes one call of the session, which the monitor has then seen. It answers the reply, and what waits for the monitor then. An
+    // `Err` makes no entry.
     pub(crate) fn call<C: Clock, R: Wait>(
         &mut self,
         rt: &R,
         alloc: Global,
         clock: &mut C,
         call: Call,
-    ) -> Result<Reply, Halt>
+    ) -> Result<(Reply, Waiting), Halt>
         requires ready { IsRunning self.old }
         requires fit { IsCall call }
         ensures ready { IsRunning self.new }
         ensures serves { (s : Spawning) → Serves self.old self.new s s }
-        ensures called { IfOk result (λ reply. Called self.old.floor.opening call (C.coming clock.old) self.old.session self.new.session reply) }
-        ensures made { IfOk result (λ reply. MakesCall call reply (seen_since self.old self.new)) }
+        ensures called { IfOk result (λ r. Called self.old.floor.opening call (C.coming clock.old) self.old.session self.new.session r.0) }
+        ensures made { IfOk result (λ r. MakesCall call r.0 (seen_since self.old self.new)) }
         ensures unmade { OnErr result (IsUncalled (seen_since self.old self.new)) }
         ensures seen { OnOk result (length self.new.session.seen ≤ length self.new.watch.seen) }
+        ensures waits { IfOk result (λ r. Waits self.new.floor self.new.watch r.1) }
         ensures floor { self.new.floor ≡ self.old.floor }
         ensures watch { HasLooked self.old.watch self.new.watch }
         ensures monitor { self.new.monitor ≡ self.old.monitor }
@@ -151,19 +148,21 @@ impl<K: Keeper> Run<K> {
     {
         let now = clock.now();
         let (place, reply) = self.enter(rt, alloc, call, now)?;
-        see(rt, &self.floor, &mut self.watch, place);
-        Ok(reply)
+        let waiting = see(rt, &self.floor, &mut self.watch, place);
+        Ok((reply, waiting))
     }
 
-    // One turn of the monitor.
+    // One turn of the monitor, which begins with what it has seen to wait.
     pub(crate) fn turn<P: Spawner, C: Clock, R: Wait>(
         &mut self,
         rt: &R,
         alloc: Global,
         spawner: &mut P,
         clock: &mut C,
+        waiting: Waiting,
     ) -> Result<Turned, Halt>
         requires ready { IsRunning self.old }
+        requires waits { Waits self.old.floor self.old.watch waiting }
         ensures ready { IsRunning self.new }
         ensures floor { self.new.floor ≡ self.old.floor }
         ensures session { self.new.session ≡ self.old.session }
@@ -178,10 +177,15 @@ impl<K: Keeper> Run<K> {
         ensures idle { IfOk result (λ turned. turned.sent ≡ 0 → self.old.monitor.failed_kill ≡ None →
             HadNothing self.old.floor self.old.watch self.new.watch self.old.monitor.kept (C.coming clock.old) (P.reporting spawner.old)) }
     {
-        match self
-            .monitor
-            .turn(rt, alloc, &self.floor, &mut self.watch, spawner, clock)
-        {
+        match self.monitor.turn(
+            rt,
+            alloc,
+            &self.floor,
+            &mut self.watch,
+            spawner,
+            clock,
+            waiting,
+        ) {
             Ok(turned) => Ok(turned),
             Err(fault) => Err(Halt::from(fault)),
         }
@@ -253,11 +257,11 @@ impl<K: Keeper> Run<K> {
         ensures none_kept { OnOk result (KeepsNone self.old.monitor.kept self.new.monitor.kept) }
         ensures full { IsErrOf result Halt.LogFull → length self.new.watch.seen < 4000000 → KeepsNone self.old.monitor.kept self.new.monitor.kept }
     {
-        let sayings = sayings_of(alloc, &command)?;
+        let mention = mention_of(&command);
         let change = user_call(alloc, user, command)?;
-        let reply = self.call(rt, alloc, clock, change)?;
-        let answered = say(alloc, out, &sayings, &reply)?;
-        self.turn(rt, alloc, spawner, clock)?;
+        let (reply, waiting) = self.call(rt, alloc, clock, change)?;
+        let answered = say(alloc, out, &mention, &reply)?;
+        self.turn(rt, alloc, spawner, clock, waiting)?;
         Ok(answered)
     }
 

@@ -2,20 +2,20 @@
 ghost use Rattle.std.specs.Prelude.{◌≡◌, ◌⊎◌, ◌<◌, ◌≤◌, None, [], length, map, option_to_list, string_bytes, true, false};
 ghost use Rattle.std.specs.List.{list_all};
 ghost use Rattle.wm_traits.specs.Cause.{raised};
-ghost use Rattle.wm_run.specs.Kept.{HasBadRow, HasHistory, store_status};
+ghost use Rattle.wm_run.specs.Kept.{HasBadRow, HasHistory};
 ghost use Rattle.wm_run.specs.Outcome.{RunTakes};
 ghost use Rattle.wm_run.specs.Run.{IsRunStatus, IsServed};
 ghost use Rattle.wm_run.specs.Serving.{is_of_run};
 ghost use Rattle.wm_run.specs.Words.{OpensStoreOf, is_run, settings_of};
-ghost use Rattle.wm_journal.specs.Keeping.{telling};
+ghost use Rattle.wm_floor.specs.Keeping.{telling};
 
 use crate::kept_run::run_kept;
-use crate::words::{NO_MEMORY, run_plan, settings};
+use crate::statuses::store_status;
+use crate::words::{run_plan, settings};
 use std::alloc::Global;
 use std::sync::Wait;
-use wm_floor::Log;
-use wm_monitor::Report;
-use wm_traits::{Clock, KeepFault, Sink, Source, Spawner, Store};
+use wm_floor::{Log, Report};
+use wm_traits::{Clock, Sink, Source, Spawner, Store};
 
 /// What a run answers for: its status, its history, and the report that it had not sent.
 #[derive(Drop)]
@@ -35,16 +35,6 @@ pub(crate) fn not_begun(alloc: Global, status: u8) -> Ran
         status,
         log: Log::none(alloc),
         kept: None,
-    }
-}
-
-// The status of a run whose store gave no keeper.
-fn store_status(fault: KeepFault) -> u8
-    ensures { result ≡ store_status fault }
-{
-    match fault {
-        KeepFault::Failed => 5,
-        KeepFault::NoMemory => NO_MEMORY,
     }
 }
 

@@ -1,9 +1,9 @@
 -- Runs over a store that tells its rows are a chain.
 use Rattle.std.proofs.Common.{◌≡◌, ◌∙◌, ◌++◌, ℕ, ℤ, List, [], ◌∷◌, map, Option, Some, None, IfSome, refl, sym, ap, subst, inl, inr}
 use Rattle.std.specs.List.{flat_map}
-use Rattle.wm_chain.specs.Chain.{Run, all_starts}
-use Rattle.wm_chain.specs.Laws.{NoJobStartsTwice}
-use Rattle.wm_journal.specs.Keeping.{Telling}
+use Rattle.wm_tables.specs.Chain.{Run, all_starts}
+use Rattle.wm_tables.specs.ChainLaws.{NoJobStartsTwice}
+use Rattle.wm_floor.specs.Keeping.{Telling}
 use Rattle.wm_law.specs.declared.call.Entry.{Entry}
 use Rattle.wm_law.specs.declared.state.State.{State}
 use Rattle.wm_law.specs.Kept.{IsDistinct, starts}

@@ -1,3 +1,11 @@
 pub mod Chains
-pub mod Counts
+pub mod PartCounts
 pub mod Partway
+pub mod Counted
+pub mod Drills
+pub mod Lengths
+pub mod Lines
+pub mod Replays
+pub mod DrillRuns
+pub mod Statuses
+pub mod Unfailing

@@ -1,7 +1,7 @@
 -- What runs over one store come to for its rows.
 use Rattle.std.specs.Prelude.{◌≡◌, ℕ, ℤ, List, [], ◌∷◌, map, Option, Some, IfSome}
 use Rattle.std.specs.List.{flat_map}
-use Rattle.wm_chain.specs.Chain.{IsChain, Run}
+use Rattle.wm_tables.specs.Chain.{IsChain, Run}
 use Rattle.wm_law.specs.Kept.{starts}
 use Rattle.wm_law.specs.Laws.{IsIn}
 use Rattle.wm_run.specs.declared.whole_run.Ran.{Ran}

@@ -2,7 +2,7 @@
 use Rattle.std.specs.Prelude.{◌≡◌, ◌⊎◌, ℕ, ◌<◌, ◌≤◌, List, [], ◌∷◌, length, map, Option, None, option_to_list, true, false}
 use Rattle.std.specs.List.{list_all}
 use Rattle.wm_base.specs.declared.job.Asked.{Asked}
-use Rattle.wm_journal.specs.Keeping.{telling}
+use Rattle.wm_floor.specs.Keeping.{telling}
 use Rattle.wm_run.specs.declared.whole_run.Ran.{Ran}
 use Rattle.wm_run.specs.Kept.{HasBadRow, HasHistory}
 use Rattle.wm_run.specs.Outcome.{RunTakes}

@@ -8,8 +8,8 @@ ghost use Rattle.wm_runs.specs.Turns.{AreRuns, IsOneRun};
 use std::alloc::Global;
 use std::sync::Wait;
 use wm_base::NoMemory;
-use wm_chain::no_job_starts_twice;
 use wm_run::{Ran, run, runs_make_chains};
+use wm_tables::no_job_starts_twice;
 use wm_traits::{Clock, Sink, Source, Spawner, Store};
 
 // One run, as a turn of several.

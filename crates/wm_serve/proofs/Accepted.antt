@@ -11,7 +11,7 @@ use Rattle.wm_law.specs.declared.state.State.{State}
 use Rattle.wm_floor.specs.Floor.{Floored, Seen}
 use Rattle.wm_floor.specs.Ledger.{caller_of}
 use Rattle.wm_run.specs.Session.{start_call}
-use Rattle.wm_monitor.specs.Advance.{is_monitors}
+use Rattle.wm_floor.specs.Advance.{is_monitors}
 use Rattle.wm_turn.specs.Passed.{own}
 use Rattle.wm_serve.specs.Done.{SeatServed, SeatsServed}
 use Rattle.wm_serve.specs.Over.{DryRose, Finishes, HasWorkersPowerDown, IsOver, PutsDown, WasDownFirst}

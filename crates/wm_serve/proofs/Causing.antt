@@ -6,9 +6,9 @@ use Rattle.std.proofs.lemmas.Option.{same_Some}
 use Rattle.wm_traits.specs.Cause.{raised}
 use Rattle.wm_law.specs.declared.call.Entry.{Entry}
 use Rattle.wm_floor.specs.Floor.{Floored, Seen}
-use Rattle.wm_monitor.specs.declared.fault.MonitorFault.{MonitorFault}
-use Rattle.wm_monitor.specs.declared.fault.MonitorFault.TheVariants as monitor_fault
-use Rattle.wm_monitor.specs.Causes.{IsCaused}
+use Rattle.wm_floor.specs.declared.monitor_fault.MonitorFault.{MonitorFault}
+use Rattle.wm_floor.specs.declared.monitor_fault.MonitorFault.TheVariants as monitor_fault
+use Rattle.wm_floor.specs.MonitorCauses.{IsCaused}
 use Rattle.wm_serve.specs.Ending.{IsSeatHalt}
 use Rattle.wm_serve.specs.Halts.{halt_of_monitor, lesser, monitor_halt, seat_halt, worker_halt}
 use Rattle.wm_serve.specs.Seating.{entered, given, left, seated, with_pass}

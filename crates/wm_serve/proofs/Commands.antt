@@ -15,8 +15,8 @@ use Rattle.wm_http.specs.declared.request.Cut.{Cut}
 use Rattle.wm_http.specs.declared.request.Cut.TheVariants.{ReadOn, Whole, Refused}
 use Rattle.wm_http.specs.declared.route.Route.{Route}
 use Rattle.wm_http.specs.declared.route.Route.TheVariants as of_route
-use Rattle.wm_monitor.specs.Lists.{since}
-use Rattle.wm_monitor.proofs.Lists.{Extends-then, since-append, since-then}
+use Rattle.wm_floor.specs.Lists.{since}
+use Rattle.wm_floor.proofs.Lists.{Extends-then, since-append, since-then}
 use Rattle.wm_run.specs.declared.parsed.Parsed.{Parsed}
 use Rattle.wm_run.specs.declared.parsed.Parsed.TheVariants as of_parsed
 use Rattle.wm_web.specs.Answered.{AnswersBody, AnswersCall, AnswersCut, AnswersParsed, AnswersRoute, IsTakenUp}

@@ -3,9 +3,9 @@ use Rattle.std.proofs.Common.{◌≡◌, ◌⊎◌, ◌∙◌, ℕ, ◌≤◌, B
 use Rattle.wm_law.specs.History.{is_monitor_call}
 use Rattle.wm_law.specs.declared.call.Call.{Call}
 use Rattle.wm_law.specs.declared.call.Call.TheVariants.{Change, Hand, Started, StartFailed, Finished, UseDone, Tick}
-use Rattle.wm_journal.specs.Limit.{limit_of}
-use Rattle.wm_journal.specs.declared.call_fault.CallFault.{CallFault}
-use Rattle.wm_journal.specs.declared.call_fault.CallFault.TheVariants as call_fault
+use Rattle.wm_floor.specs.Limit.{limit_of}
+use Rattle.wm_floor.specs.declared.call_fault.CallFault.{CallFault}
+use Rattle.wm_floor.specs.declared.call_fault.CallFault.TheVariants as call_fault
 use Rattle.wm_floor.specs.Causes.{HasMarkCause}
 use Rattle.wm_floor.specs.Floor.{IsCalled, Seen}
 use Rattle.wm_floor.specs.declared.answer.Answered.{Answered}

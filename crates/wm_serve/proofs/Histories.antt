@@ -3,8 +3,6 @@ use Rattle.std.proofs.Common.{◌≡◌, ◌⊎◌, ◌≤◌, ℕ, ℤ, true, L
 use Rattle.std.specs.Prelude.{⊤}
 use Rattle.wm_traits.specs.Told.{Stays}
 use Rattle.wm_traits.proofs.Telling.{Grows-none}
-use Rattle.wm_traits.specs.declared.fault.KeepFault.{KeepFault}
-use Rattle.wm_traits.specs.declared.fault.KeepFault.TheVariants as keep
 use Rattle.wm_traits.specs.declared.row.Row.{Row}
 use Rattle.wm_law.specs.History.{IsLegal}
 use Rattle.wm_law.specs.declared.state.State.{State}
@@ -12,25 +10,25 @@ use Rattle.wm_law.specs.Pending.{active}
 use Rattle.wm_law.specs.declared.call.Entry.{Entry}
 use Rattle.wm_law.proofs.Maxuse.{uses_are_kept}
 use Rattle.wm_law.proofs.Sound.{limits_are_kept, order_is_kept}
-use Rattle.wm_chain.proofs.Starting.{runs_start_once}
+use Rattle.wm_tables.proofs.Starting.{runs_start_once}
 use Rattle.wm_tables.specs.Restart.{IsBad}
 use Rattle.wm_tables.proofs.PrestartRestarts.{restart_is_prestart_sound, restart_is_within_maxuse}
 use Rattle.wm_tables.proofs.Restarts.{restart_is_sound}
-use Rattle.wm_journal.specs.History.{reached}
-use Rattle.wm_journal.specs.Keeping.{IsLeft, IsOpened, Telling}
-use Rattle.wm_journal.specs.OpenFaults.{NamesBad}
-use Rattle.wm_journal.specs.Stored.{HasTables}
-use Rattle.wm_journal.specs.Trail.{HasTrail}
-use Rattle.wm_journal.specs.declared.open_fault.OpenFault.{OpenFault}
-use Rattle.wm_journal.specs.declared.open_fault.OpenFault.TheVariants.{KeeperFault, BadRow, NoMemory}
-use Rattle.wm_journal.proofs.Trails.{trail_opened}
-use Rattle.wm_run.specs.Kept.{HasBadRow}
-use Rattle.wm_run.proofs.Openings.{rows_found}
+use Rattle.wm_floor.specs.History.{reached}
+use Rattle.wm_floor.specs.Keeping.{IsLeft, IsOpened, Telling}
+use Rattle.wm_floor.specs.OpenFaults.{NamesBad}
+use Rattle.wm_floor.specs.Stored.{HasTables}
+use Rattle.wm_floor.specs.Trail.{HasTrail}
+use Rattle.wm_floor.specs.declared.open_fault.OpenFault.{OpenFault}
+use Rattle.wm_floor.specs.declared.open_fault.OpenFault.TheVariants.{KeeperFault, BadRow, NoMemory}
+use Rattle.wm_floor.proofs.Trails.{trail_opened}
+use Rattle.wm_run.specs.Kept.{HasBadRow, IsUnopened, open_status}
+use Rattle.wm_run.proofs.Openings.{open_early, rows_found}
 use Rattle.wm_floor.specs.Floor.{IsLeftOrOpened}
 use Rattle.wm_floor.specs.Ledger.{behind}
 use Rattle.wm_floor.specs.declared.opened.Opened.{Opened}
 use Rattle.wm_serve.specs.Ending.{HasWritten}
-use Rattle.wm_serve.specs.Server.{HasHistory, HasNone, IsServeStatus, IsUnopened, open_status, store_status}
+use Rattle.wm_serve.specs.Server.{HasHistory, HasNone, IsServeStatus}
 
 -- a server over a keeper whose floor was opened
 pub opened_server : {K : Type 0} (offset : ℤ) (status : ℕ) (log : List Entry) (o : Opened K) (found opened closed : Telling) (Done : State → List Entry → Type 0) → IsOpened offset o.state found opened → IsLegal o.state log → (status ≡ 0 → active (reached (behind o log)) ≡ 0) → HasTables (reached (behind o log)) closed.tables → HasTrail (behind o log) found closed → (opened.trail ≡ None → closed.trail ≡ None) → is_some found.trail ≡ is_some found.tables → is_some closed.trail ≡ is_some closed.tables → Done o.state log → HasHistory offset status log found closed Done
@@ -51,17 +49,6 @@ opened_server offset status log o found opened closed Done h legal idle tables t
       trail = trail;
       done = done;
     }
-
--- The status of a server whose floor didn't open
-
-pub open_early : (fault : OpenFault) → IsUnopened (open_status fault)
-open_early KeeperFault = refl
-open_early (BadRow n) = refl
-open_early NoMemory = refl
-
-pub store_early : (fault : KeepFault) → IsUnopened (store_status fault)
-store_early keep.Failed = refl
-store_early keep.NoMemory = refl
 
 -- A server whose floor didn't open
 

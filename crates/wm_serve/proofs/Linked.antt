@@ -2,15 +2,15 @@
 use Rattle.std.proofs.Common.{◌≡◌, ◌∙◌, ◌⊎◌, ℕ, List, [], Option, Some, None, IfSome, refl, sym, subst, inl, inr}
 use Rattle.std.specs.Prelude.{⊤}
 use Rattle.wm_base.proofs.Tests.{Some-injective}
-use Rattle.wm_chain.specs.Chain.{IsRun}
-use Rattle.wm_chain.specs.Laws.{BadRowsMakeNone}
+use Rattle.wm_tables.specs.Chain.{IsRun}
+use Rattle.wm_tables.specs.ChainLaws.{BadRowsMakeNone}
 use Rattle.wm_law.specs.History.{after}
 use Rattle.wm_law.specs.declared.call.Entry.{Entry}
 use Rattle.wm_tables.specs.Restart.{IsRestart}
 use Rattle.wm_tables.specs.Tables.{tables}
 use Rattle.wm_traits.specs.Told.{Stays}
 use Rattle.wm_traits.specs.declared.row.Row.{Row}
-use Rattle.wm_journal.specs.Keeping.{IsLeft}
+use Rattle.wm_floor.specs.Keeping.{IsLeft}
 use Rattle.wm_serve.specs.Laws.{BadRowsDontServe, ServersMakeChains}
 use Rattle.wm_serve.specs.Server.{HasHistory}
 

@@ -12,14 +12,14 @@ use Rattle.wm_law.specs.declared.call.Entry.{Entry}
 use Rattle.wm_law.specs.declared.state.State.{State}
 use Rattle.wm_floor.specs.Floor.{Floored, IsCalled, IsEntered, IsPassOf, IsRefused, IsSame, Seen, entry_of}
 use Rattle.wm_floor.specs.Ledger.{caller_of}
-use Rattle.wm_journal.specs.declared.call_fault.CallFault.{CallFault}
+use Rattle.wm_floor.specs.declared.call_fault.CallFault.{CallFault}
 use Rattle.wm_floor.specs.declared.answer.Answered.{Answered}
 use Rattle.wm_floor.specs.declared.answer.Waiting.{Waiting}
 use Rattle.wm_floor.specs.declared.opened.Opened.{Opened}
 use Rattle.wm_run.specs.Session.{end_call, start_call}
 use Rattle.wm_turn.specs.Passed.{StartsWith, own}
 use Rattle.wm_turn.proofs.Histories.{starts_again}
-use Rattle.wm_monitor.specs.declared.fault.MonitorFault.{MonitorFault}
+use Rattle.wm_floor.specs.declared.monitor_fault.MonitorFault.{MonitorFault}
 use Rattle.wm_serve.specs.Halts.{lesser, monitor_halt, seat_halt}
 use Rattle.wm_serve.specs.Over.{AreServerCalls, DryRose, EndsQuietly, Finishes, IsLookOf, KeepsNone, MakesAt, MakesOne, MayMake, WasDown, WasDownFirst, WereDry}
 use Rattle.wm_serve.specs.Seating.{entered, given, joined, left, seated, with_pass}

@@ -5,18 +5,18 @@ use Rattle.std.proofs.lemmas.Option.{same_Some}
 use Rattle.wm_traits.specs.Cause.{raised}
 use Rattle.wm_law.specs.declared.call.Entry.{Entry}
 use Rattle.wm_floor.specs.Floor.{Floored, IsSame, Seen}
-use Rattle.wm_monitor.specs.Lists.{Extends, since}
-use Rattle.wm_monitor.specs.declared.fault.MonitorFault.{MonitorFault}
-use Rattle.wm_monitor.specs.Causes.{IsCaused}
-use Rattle.wm_monitor.proofs.Causes.{IsCaused-since}
+use Rattle.wm_floor.specs.Lists.{Extends, since}
+use Rattle.wm_floor.specs.declared.monitor_fault.MonitorFault.{MonitorFault}
+use Rattle.wm_floor.specs.MonitorCauses.{IsCaused}
+use Rattle.wm_floor.proofs.MonitorCausing.{IsCaused-since}
 use Rattle.wm_serve.specs.Connections.{DeskServes, MakesCommands}
-use Rattle.wm_monitor.specs.Attends.{MonitorAttends}
+use Rattle.wm_floor.specs.Attends.{MonitorAttends}
 use Rattle.wm_serve.specs.Seats.{IsLater, MonitorRuns, Runs, Sits, Tellers, WorkerRuns}
 use Rattle.wm_serve.specs.declared.seat.MonitorSeat.{MonitorSeat}
 use Rattle.wm_serve.specs.declared.seat.Seat.{Seat}
 use Rattle.wm_serve.specs.declared.seat.Seat.TheVariants.{Worker, Closer, Monitor}
 use Rattle.wm_serve.specs.declared.seat.WorkerSeat.{WorkerSeat}
-use Rattle.wm_monitor.proofs.Attending.{attends_none, attends_then}
+use Rattle.wm_floor.proofs.Attending.{attends_none, attends_then}
 use Rattle.wm_serve.proofs.Commands.{commands_none, commands_then}
 use Rattle.wm_serve.proofs.Looking.{looked_none, same_none, same_then}
 use Rattle.wm_serve.proofs.Connected.{DeskServes-none, DeskServes-then}

@@ -12,11 +12,11 @@ use Rattle.wm_law.specs.declared.call.Entry.{Entry}
 use Rattle.wm_law.specs.declared.state.State.{State}
 use Rattle.wm_plan.specs.declared.plan.ServePlan.{ServePlan}
 use Rattle.wm_tables.specs.Restart.{IsBad}
-use Rattle.wm_journal.specs.Keeping.{IsLeft, Telling}
-use Rattle.wm_journal.proofs.Staying.{Stays-same}
-use Rattle.wm_run.specs.Kept.{HasBadRow}
+use Rattle.wm_floor.specs.Keeping.{IsLeft, Telling}
+use Rattle.wm_floor.proofs.Staying.{Stays-same}
+use Rattle.wm_run.specs.Kept.{HasBadRow, IsUnopened, store_status}
 use Rattle.wm_run.proofs.Openings.{Stays-then, stays_back, stays_if, trail_of_store}
-use Rattle.wm_serve.specs.Server.{HasHistory, HasLog, IsServeStatus, IsUnopened, OpensPlanned, store_status}
+use Rattle.wm_serve.specs.Server.{HasHistory, HasLog, IsServeStatus, OpensPlanned}
 
 history_of_store : (offset : ℤ) (status : ℕ) (log : List Entry) (old found closed new : Telling) (Done : State → List Entry → Type 0) → Stays old.tables found.tables → Stays old.trail found.trail → Stays closed.tables new.tables → Stays closed.trail new.trail → is_some new.trail ≡ is_some new.tables → HasHistory offset status log found closed Done → HasHistory offset status log old new Done
 history_of_store offset status log old found closed new Done tables trail tables' trail' both h =

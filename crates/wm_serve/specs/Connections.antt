@@ -6,7 +6,7 @@ use Rattle.wm_law.specs.declared.call.Entry.{Entry}
 use Rattle.wm_floor.specs.Floor.{HasLooked, Seen}
 use Rattle.wm_floor.specs.declared.opened.Opened.{Opened}
 use Rattle.wm_listener.specs.Had.{Had}
-use Rattle.wm_monitor.specs.Lists.{Extends, since}
+use Rattle.wm_floor.specs.Lists.{Extends, since}
 use Rattle.wm_traits.specs.Told.{Grows, IsEmpty}
 use Rattle.wm_web.specs.Serving.{TakesSession}
 use Rattle.wm_web.specs.declared.end.WebEnd.{WebEnd}

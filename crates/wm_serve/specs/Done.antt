@@ -8,7 +8,7 @@ use Rattle.wm_floor.specs.Ledger.{caller_of}
 use Rattle.wm_plan.specs.declared.plan.ServePlan.{ServePlan}
 use Rattle.wm_turn.specs.Passed.{StartsWith, own}
 use Rattle.wm_serve.specs.Connections.{DeskServes, MakesCommands}
-use Rattle.wm_monitor.specs.Attends.{MonitorAttends}
+use Rattle.wm_floor.specs.Attends.{MonitorAttends}
 use Rattle.wm_serve.specs.Over.{AreServerCalls, IsOver}
 use Rattle.wm_serve.specs.Seats.{IsLater, Tellers, pass_of}
 use Rattle.wm_serve.specs.declared.seat.Seat.{Seat}

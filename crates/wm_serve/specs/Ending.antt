@@ -3,8 +3,8 @@ use Rattle.std.specs.Prelude.{◌≡◌, ◌⊎◌, ℕ, ◌≤◌, List, [], �
 use Rattle.wm_traits.specs.Cause.{raised}
 use Rattle.wm_traits.specs.Told.{Grows}
 use Rattle.wm_floor.specs.Floor.{Seen}
-use Rattle.wm_monitor.specs.declared.fault.MonitorFault.{MonitorFault}
-use Rattle.wm_monitor.specs.Causes.{IsCaused}
+use Rattle.wm_floor.specs.declared.monitor_fault.MonitorFault.{MonitorFault}
+use Rattle.wm_floor.specs.MonitorCauses.{IsCaused}
 use Rattle.wm_serve.specs.Halts.{seat_halt}
 use Rattle.wm_serve.specs.declared.halt.Halt.{Halt}
 use Rattle.wm_serve.specs.declared.halt.Halt.TheVariants.{WriteFault, KeeperFault, NoMemory, LogFull}

@@ -1,9 +1,9 @@
 -- Why a server ends early, and with which status.
 use Rattle.std.specs.Prelude.{ℕ, Option, Some, None, Result, Ok, Err, nat_lt, if◌then◌else◌}
-use Rattle.wm_journal.specs.declared.call_fault.CallFault.{CallFault}
-use Rattle.wm_journal.specs.declared.call_fault.CallFault.TheVariants as call_fault
-use Rattle.wm_monitor.specs.declared.fault.MonitorFault.{MonitorFault}
-use Rattle.wm_monitor.specs.declared.fault.MonitorFault.TheVariants as monitor_fault
+use Rattle.wm_floor.specs.declared.call_fault.CallFault.{CallFault}
+use Rattle.wm_floor.specs.declared.call_fault.CallFault.TheVariants as call_fault
+use Rattle.wm_floor.specs.declared.monitor_fault.MonitorFault.{MonitorFault}
+use Rattle.wm_floor.specs.declared.monitor_fault.MonitorFault.TheVariants as monitor_fault
 use Rattle.wm_serve.specs.declared.halt.Halt.{Halt}
 use Rattle.wm_serve.specs.declared.halt.Halt.TheVariants.{WriteFault, KeeperFault, NoMemory, LogFull, WaitFault, ListenFault}
 use Rattle.wm_serve.specs.declared.seat.Seat.{Seat}

@@ -2,10 +2,11 @@
 use Rattle.std.specs.Prelude.{◌≡◌, ℕ, ℤ, List, [], ⊤, Option, Some, None}
 use Rattle.wm_traits.specs.declared.row.Row.{Row}
 use Rattle.wm_law.specs.declared.call.Entry.{Entry}
-use Rattle.wm_chain.specs.Chain.{IsRun}
-use Rattle.wm_journal.specs.Keeping.{Telling}
+use Rattle.wm_tables.specs.Chain.{IsRun}
+use Rattle.wm_floor.specs.Keeping.{Telling}
 use Rattle.wm_tables.specs.Restart.{IsBad}
-use Rattle.wm_serve.specs.Server.{HasLog, IsUnopened}
+use Rattle.wm_run.specs.Kept.{IsUnopened}
+use Rattle.wm_serve.specs.Server.{HasLog}
 
 -- the entries of a server, which has none where its floor wasn't opened
 abbrev pub entries_in : Option (List Entry) → List Entry

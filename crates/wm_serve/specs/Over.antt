@@ -17,7 +17,7 @@ use Rattle.wm_law.specs.declared.state.State.{State}
 use Rattle.wm_floor.specs.Floor.{Floored, Seen}
 use Rattle.wm_floor.specs.Ledger.{behind, caller_of}
 use Rattle.wm_floor.specs.declared.answer.Waiting.{Waiting}
-use Rattle.wm_journal.specs.History.{reached}
+use Rattle.wm_floor.specs.History.{reached}
 use Rattle.wm_run.specs.Session.{end_call, start_call}
 use Rattle.wm_turn.specs.Passed.{StartsWith, own}
 use Rattle.wm_serve.specs.Seats.{Runs, Tellers, is_dry}

@@ -5,11 +5,11 @@ use Rattle.wm_traits.specs.Cause.{raised}
 use Rattle.wm_traits.specs.declared.spawner.Told.{Told}
 use Rattle.wm_floor.specs.Floor.{Floored, IsPassOf, IsSame, Seen}
 use Rattle.wm_listener.specs.Had.{Had}
-use Rattle.wm_monitor.specs.declared.fault.MonitorFault.{MonitorFault}
-use Rattle.wm_monitor.specs.Causes.{IsCaused}
-use Rattle.wm_monitor.specs.Scene.{IsClear}
+use Rattle.wm_floor.specs.declared.monitor_fault.MonitorFault.{MonitorFault}
+use Rattle.wm_floor.specs.MonitorCauses.{IsCaused}
+use Rattle.wm_floor.specs.Scene.{IsClear}
 use Rattle.wm_serve.specs.Connections.{DeskServes, MakesCommands}
-use Rattle.wm_monitor.specs.Attends.{MonitorAttends}
+use Rattle.wm_floor.specs.Attends.{MonitorAttends}
 use Rattle.wm_serve.specs.declared.seat.MonitorSeat.{MonitorSeat}
 use Rattle.wm_serve.specs.declared.seat.Seat.{Seat}
 use Rattle.wm_serve.specs.declared.seat.Seat.TheVariants.{Worker, Closer, Monitor}

@@ -3,8 +3,6 @@ use Rattle.std.specs.Prelude.{◌≡◌, ◌⊎◌, ℕ, ℤ, ◌+◌, ◌≤◌
 use Rattle.std.specs.List.{list_all, list_any}
 use Rattle.wm_traits.specs.Cause.{raised}
 use Rattle.wm_traits.specs.Told.{Grows, Stays}
-use Rattle.wm_traits.specs.declared.fault.KeepFault.{KeepFault}
-use Rattle.wm_traits.specs.declared.fault.KeepFault.TheVariants as keep
 use Rattle.wm_traits.specs.declared.row.Row.{Row}
 use Rattle.wm_law.specs.History.{after, IsLegal}
 use Rattle.wm_law.specs.Limits.{KeepsLimits}
@@ -13,18 +11,17 @@ use Rattle.wm_law.specs.Order.{KeepsOrder}
 use Rattle.wm_law.specs.Pending.{active}
 use Rattle.wm_law.specs.declared.call.Entry.{Entry}
 use Rattle.wm_law.specs.declared.state.State.{State}
-use Rattle.wm_chain.specs.Starts.{StartsOnce}
+use Rattle.wm_tables.specs.Starts.{StartsOnce}
 use Rattle.wm_tables.specs.Restart.{IsRestart}
-use Rattle.wm_journal.specs.Keeping.{IsLeft, Telling}
-use Rattle.wm_journal.specs.Stored.{HasTables}
-use Rattle.wm_journal.specs.Trail.{HasTrail}
-use Rattle.wm_journal.specs.declared.open_fault.OpenFault.{OpenFault}
-use Rattle.wm_journal.specs.declared.open_fault.OpenFault.TheVariants as open_fault
+use Rattle.wm_floor.specs.Keeping.{IsLeft, Telling}
+use Rattle.wm_floor.specs.Stored.{HasTables}
+use Rattle.wm_floor.specs.Trail.{HasTrail}
 use Rattle.wm_floor.specs.Floor.{Seen}
 use Rattle.wm_plan.specs.Plans.{plan_of}
 use Rattle.wm_plan.specs.declared.plan.Plan.{Plan}
 use Rattle.wm_plan.specs.declared.plan.Plan.TheVariants.{Run, Serve, Drill}
 use Rattle.wm_plan.specs.declared.plan.ServePlan.{ServePlan}
+use Rattle.wm_run.specs.Kept.{IsUnopened}
 use Rattle.wm_serve.specs.Seats.{Tellers}
 use Rattle.wm_serve.specs.declared.halt.Halt.{Halt}
 use Rattle.wm_serve.specs.declared.halt.Halt.TheVariants.{WriteFault, KeeperFault, LogFull, WaitFault, ListenFault}
@@ -59,17 +56,6 @@ pub record HasHistory (offset : ℤ) (status : ℕ) (log : List Entry) (old new 
   pub trail : HasTrail (record { opened = opened; log = log }) old new
   pub done : Done opened log
 
--- the status of a server whose store gave no keeper
-abbrev pub store_status : KeepFault → ℕ
-store_status keep.Failed = 5
-store_status keep.NoMemory = 6
-
--- the status of a server whose floor didn't open with the rows
-abbrev pub open_status : OpenFault → ℕ
-open_status open_fault.KeeperFault = 5
-open_status (open_fault.BadRow n) = 9
-open_status open_fault.NoMemory = 6
-
 -- the statuses of a server
 abbrev pub serve_statuses : List ℕ
 serve_statuses = 0 ∷ 2 ∷ 4 ∷ 5 ∷ 6 ∷ 7 ∷ 8 ∷ 9 ∷ 10 ∷ []
@@ -78,11 +64,7 @@ serve_statuses = 0 ∷ 2 ∷ 4 ∷ 5 ∷ 6 ∷ 7 ∷ 8 ∷ 9 ∷ 10 ∷ []
 abbrev pub IsServeStatus : ℕ → Type 0
 IsServeStatus status = list_any (nat_eq status) serve_statuses ≡ true
 
--- the statuses of a server whose floor wasn't opened
-abbrev pub IsUnopened : ℕ → Type 0
-IsUnopened status = list_any (nat_eq status) (2 ∷ 5 ∷ 6 ∷ 9 ∷ []) ≡ true
-
--- such a server left the rows or, for want of memory, has a history with no entry
+-- a server whose floor wasn't opened left the rows or, for want of memory, has a history with no entry
 pub record HasNone (offset : ℤ) (status : ℕ) (old new : Telling) : Type 0 where
   pub early : IsUnopened status
   pub left : IsLeft old new ⊎ ((status ≡ 6) × HasHistory offset status [] old new (λ opened log. ⊤))

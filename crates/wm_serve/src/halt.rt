@@ -4,8 +4,7 @@ ghost use Rattle.wm_serve.specs.Halts.{halt_of_call, halt_of_monitor, least, les
 ghost use Rattle.wm_serve.specs.declared.halt.Halt.TheVariants.{NoMemory};
 
 use std::alloc::AllocError;
-use wm_journal::CallFault;
-use wm_monitor::MonitorFault;
+use wm_floor::{CallFault, MonitorFault};
 
 /// Why a server ends early.
 #[derive(Clone, Copy)]

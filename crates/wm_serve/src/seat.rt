@@ -6,8 +6,7 @@ ghost use Rattle.wm_serve.specs.Seats.{IsFresh, Tellers, desk_of, is_dry, pass_o
 
 use crate::halt::Halt;
 use crate::worker::Stopped;
-use wm_floor::FloorPass;
-use wm_monitor::{Monitor, MonitorFault};
+use wm_floor::{FloorPass, Monitor, MonitorFault};
 use wm_traits::Keeper;
 
 /// A worker's desk and clock, and why the worker stopped last.

@@ -15,7 +15,7 @@ ghost use Rattle.wm_serve.specs.Seats.{MonitorSits, Runs, Sits, Tends, is_dry, t
 ghost use Rattle.wm_serve.specs.declared.halt.Halt.TheVariants.{WriteFault};
 ghost use Rattle.wm_serve.specs.declared.seat.Seat.TheVariants.{Closer};
 
-use crate::attendant::wait_until;
+use crate::attendant::{look_and_turn, wait_until};
 use crate::halt::{Halt, least, lesser};
 use crate::seat::{MonitorSeat, Seat};
 use crate::threads::run_seats;
@@ -23,10 +23,9 @@ use std::alloc::Global;
 use std::sync::Wait;
 use std::thread::Threads;
 use wm_base::{Moment, QName};
-use wm_floor::{Floor, FloorPass, Waiting};
+use wm_floor::{Floor, FloorPass, MonitorFault, Waiting};
 use wm_law::{Call, Power};
 use wm_listener::{Desk, Listener};
-use wm_monitor::MonitorFault;
 use wm_run::{end_call, start_call, write_all};
 use wm_traits::{Clock, Keeper, Sink, Spawner};
 use wm_web::Gate;
@@ -281,7 +280,7 @@ fn tend<K: Keeper, P: Spawner, C: Clock, R: Wait>(
         ..
     } = seat;
     let Some(pass) = pass else { unreachable!() };
-    let turned = monitor.turn(rt, alloc, floor, pass, spawner, clock)?;
+    let turned = look_and_turn(rt, alloc, floor, pass, monitor, spawner, clock)?;
     if turned.sent == 0 && turned.pending.active > 0 {
         let until = wait_until(clock.now(), turned.pending.next);
         monitor.wait(rt, alloc, floor, pass, spawner, clock, Some(until))?;

@@ -4,11 +4,11 @@ ghost use Rattle.std.specs.List.{AllZip, list_all};
 ghost use Rattle.wm_traits.specs.Cause.{raised};
 ghost use Rattle.wm_law.specs.Pending.{active};
 ghost use Rattle.wm_run.specs.Kept.{HasBadRow};
-ghost use Rattle.wm_journal.specs.History.{reached};
+ghost use Rattle.wm_floor.specs.History.{reached};
 ghost use Rattle.wm_law.specs.History.{IsLegal};
-ghost use Rattle.wm_journal.specs.Keeping.{telling};
-ghost use Rattle.wm_journal.specs.Stored.{HasTables};
-ghost use Rattle.wm_journal.specs.Trail.{HasTrail};
+ghost use Rattle.wm_floor.specs.Keeping.{telling};
+ghost use Rattle.wm_floor.specs.Stored.{HasTables};
+ghost use Rattle.wm_floor.specs.Trail.{HasTrail};
 ghost use Rattle.wm_floor.specs.Floor.{HasLooked, IsPassOf, IsSame};
 ghost use Rattle.wm_floor.specs.Ledger.{behind, caller_of};
 ghost use Rattle.wm_turn.specs.Passed.{HasOwn, fresh, own};
@@ -17,7 +17,7 @@ ghost use Rattle.wm_serve.specs.Halts.{ended_status};
 ghost use Rattle.wm_serve.specs.Seats.{IsFresh, pass_of, takes_pass, tellers};
 ghost use Rattle.wm_serve.specs.Done.{AreServed, AreServedBy, SeatsServed};
 ghost use Rattle.wm_serve.specs.Over.{AreServerCalls, DryRose, Finishes};
-ghost use Rattle.wm_serve.specs.Server.{AnyZip, DeskRose, HasLog, IsEndHalt, IsServeStatus, IsUnfit, OpensPlanned, SpawnerRose, are_fit, is_closer, is_monitor, is_worker, limit_of, offset_of, open_status, serve_plan, store_status};
+ghost use Rattle.wm_serve.specs.Server.{AnyZip, DeskRose, HasLog, IsEndHalt, IsServeStatus, IsUnfit, OpensPlanned, SpawnerRose, are_fit, is_closer, is_monitor, is_worker, limit_of, offset_of, serve_plan};
 
 use crate::halt::Halt;
 use crate::seat::Seat;
@@ -28,11 +28,10 @@ use std::sync::Wait;
 use std::thread::Threads;
 use wm_core::Setup;
 use wm_floor::{Closed, Floor, FloorPass, Log};
-use wm_journal::OpenFault;
 use wm_listener::Listener;
 use wm_plan::{Plan, ServePlan, WordFault, read_words};
-use wm_run::{NO_MEMORY, WRONG_WORDS};
-use wm_traits::{Clock, KeepFault, Keeper, Sink, Spawner, Store};
+use wm_run::{NO_MEMORY, WRONG_WORDS, open_status, store_status};
+use wm_traits::{Clock, Keeper, Sink, Spawner, Store};
 use wm_web::Gate;
 
 /// What a server answers for: its status, and its history where its floor was opened.
@@ -64,27 +63,6 @@ fn serve_plan(alloc: Global, words: &[String]) -> Result<ServePlan, u8>
         Ok(Plan::Serve(plan)) => Ok(plan),
         Ok(Plan::Run(_) | Plan::Drill(_)) | Err(WordFault::Bad) => Err(WRONG_WORDS),
         Err(WordFault::NoMemory) => Err(NO_MEMORY),
-    }
-}
-
-// The status of a server whose store gave no keeper.
-fn store_status(fault: KeepFault) -> u8
-    ensures { result ≡ store_status fault }
-{
-    match fault {
-        KeepFault::Failed => 5,
-        KeepFault::NoMemory => NO_MEMORY,
-    }
-}
-
-// The status of a server whose floor didn't open with the rows.
-fn open_status(fault: &OpenFault) -> u8
-    ensures { result ≡ open_status fault.now }
-{
-    match fault {
-        OpenFault::KeeperFault => 5,
-        OpenFault::BadRow(_) => 9,
-        OpenFault::NoMemory => NO_MEMORY,
     }
 }
 

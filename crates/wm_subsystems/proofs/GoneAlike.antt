@@ -9,9 +9,9 @@ use Rattle.wm_law.specs.declared.state.Sbs.{Sbs}
 use Rattle.wm_law.specs.declared.state.State.{State}
 use Rattle.wm_law.specs.declared.state.Stop.{Stop}
 use Rattle.wm_law.specs.Settling.{is_ending, is_gone, is_gone_by_name, leave}
-use Rattle.wm_tally.specs.Tally.{Counts, IsTally}
-use Rattle.wm_tally.specs.Tallied.{hows}
-use Rattle.wm_tally.proofs.TalliedJobs.{tally_has_counts}
+use Rattle.wm_pick.specs.Tally.{Counts, IsTally}
+use Rattle.wm_pick.specs.Tallied.{hows}
+use Rattle.wm_pick.proofs.TalliedJobs.{tally_has_counts}
 use Rattle.wm_subsystems.specs.Gone.{is_any_gone, is_gone_by}
 
 -- the same subsystem is gone

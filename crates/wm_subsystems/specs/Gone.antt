@@ -5,8 +5,8 @@ use Rattle.wm_base.specs.declared.qname.QName.{QName}
 use Rattle.wm_desc.specs.Table.{same_qname}
 use Rattle.wm_law.specs.declared.state.Sbs.{Sbs}
 use Rattle.wm_law.specs.Settling.{is_ending}
-use Rattle.wm_tally.specs.declared.counted.Counted.TheVariants as key
-use Rattle.wm_tally.specs.Tally.{Counts, count_of}
+use Rattle.wm_pick.specs.declared.counted.Counted.TheVariants as key
+use Rattle.wm_pick.specs.Tally.{Counts, count_of}
 
 -- an ending subsystem with no active job is gone
 abbrev pub is_gone_by : Counts → Sbs → Bool

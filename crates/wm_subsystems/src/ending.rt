@@ -68,8 +68,8 @@ pub fn drop_evokes(evokes: &mut Evokes, those: &Those, started: &SbsList)
     drop_each(&mut evokes.items, those, started);
 }
 
-// Whether a request is one for the prestart entry.
-fn is_evoke_of(sbs: &QName, pgm: &QName, evoke: &Evoke) -> bool
+/// Whether a request is one for the prestart entry.
+pub fn is_evoke_of(sbs: &QName, pgm: &QName, evoke: &Evoke) -> bool
     ensures { result ≡ is_evoke_of sbs.now pgm.now evoke.now }
 {
     evoke.sbs == *sbs && evoke.pgm == *pgm

@@ -2,12 +2,12 @@
 ghost use Rattle.std.specs.Prelude.{◌≡◌, List};
 ghost use Rattle.wm_law.specs.declared.job.Job.{Job};
 ghost use Rattle.wm_law.specs.Settling.{is_ending, is_gone};
-ghost use Rattle.wm_tally.specs.Tally.{IsTally};
-ghost use Rattle.wm_tally.specs.Tallied.{hows};
+ghost use Rattle.wm_pick.specs.Tally.{IsTally};
+ghost use Rattle.wm_pick.specs.Tallied.{hows};
 ghost use Rattle.wm_subsystems.specs.Gone.{is_gone_by};
 
 use wm_law::{Sbs, SbsPhase};
-use wm_tally::{Counted, Tally};
+use wm_pick::{Counted, Tally};
 
 /// Whether a subsystem is ending.
 pub fn is_ending(phase: &SbsPhase) -> bool

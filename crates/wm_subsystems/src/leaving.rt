@@ -5,7 +5,7 @@ ghost use Rattle.wm_subsystems.specs.Gone.{is_any_gone, is_gone_by};
 use crate::gone_sbs::gone;
 use wm_base::QName;
 use wm_law::{Evoke, Evokes, Sbs, SbsList, Stop, Stops};
-use wm_tally::Tally;
+use wm_pick::Tally;
 
 // Whether a subsystem of the name is gone.
 fn is_any_gone(started: &SbsList, tally: &Tally, name: &QName) -> bool

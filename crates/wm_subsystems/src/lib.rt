@@ -34,7 +34,7 @@ mod wishes;
 
 pub use deadlines::{deadline, has_come, is_prestart};
 pub use due::{is_ending_call, look_at_all};
-pub use ending::{drop_entry_evokes, drop_evokes, end_phase, end_sbss};
+pub use ending::{drop_entry_evokes, drop_evokes, end_phase, end_sbss, is_evoke_of};
 pub use gone_sbs::{gone, is_ending};
 pub use job_ending::Ending;
 pub use laws::ending_ends_one_job;

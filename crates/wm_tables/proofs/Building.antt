@@ -35,9 +35,9 @@ use Rattle.wm_law.proofs.Objects.{IsObjectChange}
 use Rattle.wm_law.proofs.Waits.{waiting_more, waiting_same}
 use Rattle.wm_rows.specs.declared.stored.Counter.{Counter}
 use Rattle.wm_rows.specs.declared.stored.Counter.TheVariants as counter
-use Rattle.wm_job_rows.specs.declared.stored.StoredJob.{StoredJob}
-use Rattle.wm_job_rows.specs.declared.stored.StoredPhase.{StoredPhase}
-use Rattle.wm_job_rows.specs.declared.stored.StoredPhase.TheVariants.{Waiting, Active, Ended}
+use Rattle.wm_rows.specs.declared.stored_job.StoredJob.{StoredJob}
+use Rattle.wm_rows.specs.declared.stored_job.StoredPhase.{StoredPhase}
+use Rattle.wm_rows.specs.declared.stored_job.StoredPhase.TheVariants.{Waiting, Active, Ended}
 use Rattle.wm_tables.specs.Restart.{job_of, phase_of, with_stored, with_counter, HasOwnValues, IsOfKind, IsGoodJob, IsGoodCount, Takes, IsRead}
 use Rattle.wm_tables.proofs.Digits.{padded_less}
 use Rattle.wm_tables.proofs.Joining.{below_end, below_rise, distinct_end, given_end, increasing_end, none_taken, none_used}

@@ -15,8 +15,8 @@ use Rattle.wm_rows.specs.Rows.{counter_row, counter_word, held_row}
 use Rattle.wm_rows.specs.Tables.{held_rows, object_rows}
 use Rattle.wm_rows.specs.declared.stored.Counter.{Counter}
 use Rattle.wm_rows.specs.declared.stored.Counter.TheVariants as counter
-use Rattle.wm_job_rows.specs.JobText.{job_row}
-use Rattle.wm_job_rows.specs.declared.stored.StoredJob.{StoredJob}
+use Rattle.wm_rows.specs.JobText.{job_row}
+use Rattle.wm_rows.specs.declared.stored_job.StoredJob.{StoredJob}
 use Rattle.wm_tables.specs.Restart.{job_of, with_counter, with_stored, IsGoodCount, IsRead, Takes}
 use Rattle.wm_tables.proofs.Ends.{counts}
 use Rattle.wm_tables.proofs.Gained.{Gains, gains_left, gains_mapped, gains_right, made_gains}

@@ -31,3 +31,25 @@ pub mod SameRows
 pub mod Gained
 pub mod Found
 pub mod NewRows
+mod Held
+mod Ordered
+pub mod Starting
+mod Trees
+mod SameRow
+mod OneState
+mod Chains
+pub mod After
+pub mod Differs
+pub mod OneDifference
+pub mod OneMoreRow
+pub mod Descriptions
+pub mod Left
+pub mod Commands
+pub mod JobRows
+pub mod CounterRows
+pub mod Steps
+pub mod NotedPairs
+pub mod Standings
+pub mod TouchedRows
+pub mod Leaving
+pub mod Taking

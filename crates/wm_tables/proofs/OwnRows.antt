@@ -34,8 +34,8 @@ use Rattle.wm_rows.specs.Rows.{class_row, program_row, queue_row, jobd_row, sbsd
 use Rattle.wm_rows.specs.Tables.{queue_entry_rows, route_entry_rows, auto_entry_rows, pre_entry_rows, sbsd_rows, held_rows, counter_rows}
 use Rattle.wm_rows.specs.declared.stored.Counter.{Counter}
 use Rattle.wm_rows.specs.declared.stored.Counter.TheVariants as counter
-use Rattle.wm_job_rows.specs.JobText.{job_row}
-use Rattle.wm_job_rows.specs.Stored.{stored_of}
+use Rattle.wm_rows.specs.JobText.{job_row}
+use Rattle.wm_rows.specs.Stored.{stored_of}
 use Rattle.wm_tables.specs.Ranges.{IsInRange}
 use Rattle.wm_tables.specs.Tables.{job_rows, rows_of}
 use Rattle.wm_tables.proofs.Ends.{one_counter}

@@ -22,8 +22,8 @@ use Rattle.wm_law.proofs.Members.{left_in, left_same}
 use Rattle.wm_rows.specs.Rows.{class_row, program_row, queue_row, jobd_row, sbsd_row, queue_entry_row, route_entry_row, auto_entry_row, pre_entry_row, held_row, counter_row}
 use Rattle.wm_rows.specs.declared.stored.Counter.{Counter}
 use Rattle.wm_rows.specs.declared.stored.Counter.TheVariants as counter
-use Rattle.wm_job_rows.specs.JobText.{job_row}
-use Rattle.wm_job_rows.specs.Stored.{stored_of}
+use Rattle.wm_rows.specs.JobText.{job_row}
+use Rattle.wm_rows.specs.Stored.{stored_of}
 use Rattle.wm_tables.specs.Restart.{restarted_job}
 use Rattle.wm_tables.specs.Tables.{rows_of}
 use Rattle.wm_tables.proofs.OwnPlaces.{same_tab}

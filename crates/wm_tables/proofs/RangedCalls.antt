@@ -77,8 +77,8 @@ use Rattle.wm_law.proofs.Members.{found_among, left_in}
 use Rattle.wm_law.proofs.Moves.{prestart_keeps}
 use Rattle.wm_law.proofs.Supplies.{IsActiveAmong}
 use Rattle.wm_law.proofs.Objects.{class_made, queue_made, program_made, job_description_made, description_made, queue_added, route_added, auto_added, pre_added, queue_removed, route_removed, auto_removed, pre_removed}
-use Rattle.wm_job_rows.specs.Stored.{IsCause, IsPhase, IsQueue, IsRequest, IsStored, stored_of, stored_phase}
-use Rattle.wm_job_rows.specs.declared.stored.StoredJob.{StoredJob}
+use Rattle.wm_rows.specs.Stored.{IsCause, IsPhase, IsQueue, IsRequest, IsStored, stored_of, stored_phase}
+use Rattle.wm_rows.specs.declared.stored_job.StoredJob.{StoredJob}
 use Rattle.wm_tables.specs.Ranges.{IsInRange, IsJobInRange}
 use Rattle.wm_tables.specs.Restart.{IsOfKind}
 use Rattle.wm_tables.proofs.RangedJobs.{AreJobs, jobs_last, jobs_mapped, made_range, phased}

@@ -13,9 +13,9 @@ use Rattle.wm_law.specs.declared.job.JobKind.TheVariants.{Bch, Asj, Pj}
 use Rattle.wm_law.specs.declared.state.State.{State}
 use Rattle.wm_law.proofs.Members.{of_last, of_mapped}
 use Rattle.wm_law.proofs.Objects.{IsObjectChange}
-use Rattle.wm_job_rows.specs.Stored.{IsPhase, IsStored, stored_of, stored_phase}
-use Rattle.wm_job_rows.specs.declared.stored.StoredJob.{StoredJob}
-use Rattle.wm_job_rows.specs.declared.stored.StoredPhase.{StoredPhase}
+use Rattle.wm_rows.specs.Stored.{IsPhase, IsStored, stored_of, stored_phase}
+use Rattle.wm_rows.specs.declared.stored_job.StoredJob.{StoredJob}
+use Rattle.wm_rows.specs.declared.stored_job.StoredPhase.{StoredPhase}
 use Rattle.wm_tables.specs.Ranges.{AreInRange, IsInRange, IsJobInRange}
 use Rattle.wm_tables.specs.Restart.{HasLengths, IsOfKind}
 

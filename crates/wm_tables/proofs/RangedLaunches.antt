@@ -31,7 +31,7 @@ use Rattle.wm_law.specs.declared.job.Job.{Job}
 use Rattle.wm_law.specs.declared.launch.Launched.{Launched}
 use Rattle.wm_law.specs.declared.state.State.{State}
 use Rattle.wm_law.proofs.Members.{found_among}
-use Rattle.wm_job_rows.specs.Stored.{IsPhase, IsRequest, stored_phase}
+use Rattle.wm_rows.specs.Stored.{IsPhase, IsRequest, stored_phase}
 use Rattle.wm_tables.specs.Ranges.{AreInRange, IsInRange, IsJobInRange}
 use Rattle.wm_tables.proofs.RangedJobs.{jobs_last, jobs_mapped, phased}
 use Rattle.wm_law.proofs.Moves.{IsStartable, enough}

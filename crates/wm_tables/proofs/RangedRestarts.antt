@@ -27,10 +27,10 @@ use Rattle.wm_rows.specs.Again.{crtcls_of, crtpgmref_of, crtjobq_of, crtjobd_of,
 use Rattle.wm_rows.specs.Rows.{command_row}
 use Rattle.wm_rows.specs.declared.stored.Counter.{Counter}
 use Rattle.wm_rows.specs.declared.stored.Counter.TheVariants as counter
-use Rattle.wm_job_rows.specs.Stored.{IsPhase, stored_phase}
-use Rattle.wm_job_rows.specs.declared.stored.StoredJob.{StoredJob}
-use Rattle.wm_job_rows.specs.declared.stored.StoredPhase.{StoredPhase}
-use Rattle.wm_job_rows.specs.declared.stored.StoredPhase.TheVariants.{Waiting, Active, Ended}
+use Rattle.wm_rows.specs.Stored.{IsPhase, stored_phase}
+use Rattle.wm_rows.specs.declared.stored_job.StoredJob.{StoredJob}
+use Rattle.wm_rows.specs.declared.stored_job.StoredPhase.{StoredPhase}
+use Rattle.wm_rows.specs.declared.stored_job.StoredPhase.TheVariants.{Waiting, Active, Ended}
 use Rattle.wm_tables.specs.Laws.{OpeningIsInRange, RestartIsInRange}
 use Rattle.wm_tables.specs.Ranges.{AreInRange, HasEntriesInRange, IsInRange, IsJobInRange}
 use Rattle.wm_tables.specs.Restart.{job_of, phase_of, with_counter, with_stored, IsGoodJob, IsRead, Takes}

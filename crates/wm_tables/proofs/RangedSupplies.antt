@@ -31,7 +31,7 @@ use Rattle.wm_law.proofs.Endings.{IsPhaseAfter, IsWishing, using, wished}
 use Rattle.wm_law.proofs.Moves.{IsStartable, started_keeps}
 use Rattle.wm_law.proofs.Rounds.{left, left-few}
 use Rattle.wm_law.proofs.Supplies.{IsSuppliable, IsSupplied, number_left, serial_left}
-use Rattle.wm_job_rows.specs.Stored.{IsCause, IsPhase, stored_of, stored_phase}
+use Rattle.wm_rows.specs.Stored.{IsCause, IsPhase, stored_of, stored_phase}
 use Rattle.wm_tables.specs.Ranges.{AreInRange, IsInRange, IsJobInRange}
 use Rattle.wm_tables.proofs.RangedJobs.{jobs_last, jobs_mapped, phased}
 use Rattle.wm_tables.proofs.RangedLaunches.{autos_range, described_in}

@@ -12,8 +12,8 @@ use Rattle.wm_law.specs.declared.state.State.{State}
 use Rattle.wm_law.proofs.Members.{each_stays}
 use Rattle.wm_rows.specs.Rows.{class_row, program_row, queue_row, jobd_row, sbsd_row, held_row}
 use Rattle.wm_rows.specs.declared.stored.Counter.TheVariants as counter
-use Rattle.wm_job_rows.specs.JobText.{job_row}
-use Rattle.wm_job_rows.specs.Stored.{stored_of}
+use Rattle.wm_rows.specs.JobText.{job_row}
+use Rattle.wm_rows.specs.Stored.{stored_of}
 use Rattle.wm_tables.specs.Laws.{TablesMakeTheirState}
 use Rattle.wm_tables.specs.Ranges.{IsInRange}
 use Rattle.wm_tables.specs.Restart.{AreGood, HasCounters, IsRead, Takes, restarted, restarted_job}

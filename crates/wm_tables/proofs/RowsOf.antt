@@ -25,8 +25,8 @@ use Rattle.wm_law.proofs.InOrder.{rest_sorted}
 use Rattle.wm_rows.specs.Rows.{class_row, program_row, queue_row, jobd_row, sbsd_row, queue_entry_row, route_entry_row, auto_entry_row, pre_entry_row, held_row, counter_row}
 use Rattle.wm_rows.specs.Tables.{queue_entry_rows, route_entry_rows, auto_entry_rows, pre_entry_rows, held_rows, counter_rows}
 use Rattle.wm_rows.specs.declared.stored.Counter.TheVariants as counter
-use Rattle.wm_job_rows.specs.JobText.{job_row}
-use Rattle.wm_job_rows.specs.Stored.{stored_of}
+use Rattle.wm_rows.specs.JobText.{job_row}
+use Rattle.wm_rows.specs.Stored.{stored_of}
 use Rattle.wm_tables.specs.Tables.{job_rows, rows_of}
 use Rattle.wm_tables.proofs.OneMore.{first_below, not_same}
 use Rattle.wm_tables.proofs.OwnPlaces.{in_flat, of_flat}

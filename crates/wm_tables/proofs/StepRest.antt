@@ -30,10 +30,10 @@ use Rattle.wm_law.proofs.Members.{in_left, in_mapped, left_in, of_mapped}
 use Rattle.wm_rows.specs.Rows.{held_row, counter_row}
 use Rattle.wm_rows.specs.declared.stored.Counter.{Counter}
 use Rattle.wm_rows.specs.declared.stored.Counter.TheVariants as counter
-use Rattle.wm_job_rows.specs.JobText.{job_row}
-use Rattle.wm_job_rows.specs.Stored.{stored_of, stored_phase}
-use Rattle.wm_job_rows.specs.declared.stored.StoredJob.{StoredJob}
-use Rattle.wm_job_rows.specs.declared.stored.StoredPhase.TheVariants.{Waiting}
+use Rattle.wm_rows.specs.JobText.{job_row}
+use Rattle.wm_rows.specs.Stored.{stored_of, stored_phase}
+use Rattle.wm_rows.specs.declared.stored_job.StoredJob.{StoredJob}
+use Rattle.wm_rows.specs.declared.stored_job.StoredPhase.TheVariants.{Waiting}
 use Rattle.wm_tables.specs.Ranges.{IsInRange}
 use Rattle.wm_tables.specs.Restart.{restarted_job, restarted_phase, job_of, phase_of, is_taken, is_used, IsOfKind, Holds, Enters, Counts}
 use Rattle.wm_tables.proofs.Digits.{padded_less}

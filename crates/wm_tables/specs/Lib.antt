@@ -3,3 +3,10 @@ pub mod Opened
 pub mod Ranges
 pub mod Restart
 pub mod Tables
+pub mod Chain
+pub mod ChainLaws
+pub mod Starts
+pub mod Changes
+pub mod Difference
+pub mod ChangeLaws
+pub mod Noted

@@ -7,10 +7,10 @@ use Rattle.wm_traits.specs.declared.row.RowChange.{RowChange}
 use Rattle.wm_traits.specs.declared.row.RowChange.TheVariants.{Put}
 use Rattle.wm_law.specs.Laws.{IsIn}
 use Rattle.wm_law.specs.declared.state.State.{State}
-use Rattle.wm_job_rows.specs.JobText.{job_row}
-use Rattle.wm_job_rows.specs.Stored.{stored_of}
-use Rattle.wm_job_rows.specs.declared.stored.StoredJob.{StoredJob}
-use Rattle.wm_job_rows.specs.declared.stored.StoredPhase.TheVariants.{Active}
+use Rattle.wm_rows.specs.JobText.{job_row}
+use Rattle.wm_rows.specs.Stored.{stored_of}
+use Rattle.wm_rows.specs.declared.stored_job.StoredJob.{StoredJob}
+use Rattle.wm_rows.specs.declared.stored_job.StoredPhase.TheVariants.{Active}
 use Rattle.wm_tables.specs.Restart.{job_of}
 use Rattle.wm_tables.specs.Tables.{rows_of}
 

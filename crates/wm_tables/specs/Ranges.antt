@@ -18,7 +18,7 @@ use Rattle.wm_law.specs.declared.command.Command.TheVariants as command
 use Rattle.wm_law.specs.declared.job.Job.{Job}
 use Rattle.wm_law.specs.declared.state.State.{State}
 use Rattle.wm_rows.specs.Again.{crtcls_of, crtpgmref_of, crtjobq_of, crtjobd_of, crtsbsd_of, addjobqe_of, addrtge_of, addaje_of, addpje_of}
-use Rattle.wm_job_rows.specs.Stored.{IsStored, stored_of}
+use Rattle.wm_rows.specs.Stored.{IsStored, stored_of}
 use Rattle.wm_tables.specs.Restart.{HasLengths, IsOfKind}
 
 -- the command that makes each entry again keeps its ranges

@@ -28,11 +28,11 @@ use Rattle.wm_law.specs.declared.state.State.{State}
 use Rattle.wm_rows.specs.Rows.{command_row, counter_row, held_row}
 use Rattle.wm_rows.specs.declared.stored.Counter.{Counter}
 use Rattle.wm_rows.specs.declared.stored.Counter.TheVariants as counter
-use Rattle.wm_job_rows.specs.JobText.{job_row}
-use Rattle.wm_job_rows.specs.Stored.{IsStored}
-use Rattle.wm_job_rows.specs.declared.stored.StoredJob.{StoredJob}
-use Rattle.wm_job_rows.specs.declared.stored.StoredPhase.{StoredPhase}
-use Rattle.wm_job_rows.specs.declared.stored.StoredPhase.TheVariants.{Waiting, Active, Ended}
+use Rattle.wm_rows.specs.JobText.{job_row}
+use Rattle.wm_rows.specs.Stored.{IsStored}
+use Rattle.wm_rows.specs.declared.stored_job.StoredJob.{StoredJob}
+use Rattle.wm_rows.specs.declared.stored_job.StoredPhase.{StoredPhase}
+use Rattle.wm_rows.specs.declared.stored_job.StoredPhase.TheVariants.{Waiting, Active, Ended}
 
 -- Jobs
 

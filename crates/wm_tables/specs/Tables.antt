@@ -7,8 +7,8 @@ use Rattle.wm_traits.specs.Rows.{changed}
 use Rattle.wm_law.specs.declared.job.Job.{Job}
 use Rattle.wm_law.specs.declared.state.State.{State}
 use Rattle.wm_rows.specs.Tables.{object_rows, held_rows, counter_rows}
-use Rattle.wm_job_rows.specs.JobText.{job_row}
-use Rattle.wm_job_rows.specs.Stored.{stored_of}
+use Rattle.wm_rows.specs.JobText.{job_row}
+use Rattle.wm_rows.specs.Stored.{stored_of}
 
 -- the rows of jobs
 abbrev pub job_rows : List Job → List Row

@@ -6,8 +6,7 @@ use anyhow::{Result, bail};
 use std::alloc::{AllocError, Global};
 use std::sync::Wait;
 use wm_base::{Asked, Moment};
-use wm_floor::{Floor, FloorPass};
-use wm_monitor::Monitor;
+use wm_floor::{Floor, FloorPass, Monitor};
 use wm_outside::{MemClock, MemSpawner};
 use wm_traits::Keeper;
 
@@ -52,9 +51,16 @@ impl Watcher {
         requires own { IsPassOf floor.now pass.old }
         ensures own { IsPassOf floor.now pass.new }
     {
-        let turned = self
-            .monitor
-            .turn(rt, alloc, floor, pass, &mut self.spawner, &mut self.clock);
+        let waiting = floor.waiting(rt, pass);
+        let turned = self.monitor.turn(
+            rt,
+            alloc,
+            floor,
+            pass,
+            &mut self.spawner,
+            &mut self.clock,
+            waiting,
+        );
         match turned {
             Ok(turned) => self.sent = self.sent.saturating_add(u64::from(turned.sent)),
             Err(_) => bail!("a monitor's turn ended early"),

@@ -8,7 +8,7 @@ use wm_base::Name;
 use wm_clwords::read_command;
 use wm_command::{Line, command};
 
-// The line that a CL text is.
+/// The line that a CL text is.
 pub fn line_of(alloc: Global, user: &Name, text: &str) -> Result<Line>
     ensures { IfOk result FitsMachine }
 {

@@ -11,9 +11,9 @@ use std::mem;
 use std::sync::Wait;
 use wm_base::Moment;
 use wm_cases::Subject;
-use wm_drill::{drill, drill_text};
 use wm_outside::{MemClock, MemSink, MemSource, MemSpawner, MemStore};
 use wm_run::{Ran, run};
+use wm_runs::{drill, drill_text};
 use wm_traits::{Source, Spawner, Store};
 
 // How many bytes an input has left. A read that fails takes none.

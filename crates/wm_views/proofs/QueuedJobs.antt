@@ -14,10 +14,10 @@ use Rattle.wm_law.specs.Laws.{IsIn}
 use Rattle.wm_law.specs.Queues.{is_on_queue, waits_on}
 use Rattle.wm_law.proofs.Members.{left_same}
 use Rattle.wm_ordered.proofs.Members.{Contains-cases, Contains-filter, Contains-from_filter, Contains-nil}
-use Rattle.wm_waiting.specs.declared.waiter.Waiter.{Waiter}
-use Rattle.wm_waiting.specs.Waiting.{HavePlaces, is_on, is_before, first_on, next_on}
-use Rattle.wm_waiting.proofs.Firsts.{first_on-least}
-use Rattle.wm_waiting.proofs.Lines.{first_on-None, first_on-Some}
+use Rattle.wm_ordered.specs.declared.waiter.Waiter.{Waiter}
+use Rattle.wm_ordered.specs.Waiting.{HavePlaces, is_on, is_before, first_on, next_on}
+use Rattle.wm_ordered.proofs.Firsts.{first_on-least}
+use Rattle.wm_ordered.proofs.Lines.{first_on-None, first_on-Some}
 use Rattle.wm_pick.specs.Parts.{waiter_on, waiter_of, waiters}
 use Rattle.wm_pick.proofs.LentHeads.{in_waiters}
 use Rattle.wm_jobs.specs.Table.{serial_of}

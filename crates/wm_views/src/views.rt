@@ -8,7 +8,7 @@ use crate::{ActiveLines, JobLines, JobShown, Parts, QueueShown, SbsLine, SbsLine
 use std::alloc::Global;
 use wm_base::{Kind, Limit, Name, NoMemory, QName, Refusal};
 use wm_law::{Ask, Job, JobRef, Sbs};
-use wm_tally::Counted;
+use wm_pick::Counted;
 
 impl<'a> Parts<'a> {
     ghost use Rattle.std.specs.Prelude.{◌≡◌, map, IfOk};

@@ -11,7 +11,7 @@ use Rattle.wm_http.specs.declared.request.Cut.{Cut}
 use Rattle.wm_http.specs.declared.request.Cut.TheVariants.{ReadOn, Whole, Refused}
 use Rattle.wm_http.specs.declared.route.Route.{Route}
 use Rattle.wm_http.specs.declared.route.Route.TheVariants as of_route
-use Rattle.wm_journal.specs.History.{reached}
+use Rattle.wm_floor.specs.History.{reached}
 use Rattle.wm_law.specs.declared.command.Ask.{Ask}
 use Rattle.wm_law.specs.declared.command.Command.{Command}
 use Rattle.wm_listing.specs.Log.{log_text}

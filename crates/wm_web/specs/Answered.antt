@@ -10,9 +10,9 @@ use Rattle.wm_http.specs.declared.request.Cut.{Cut}
 use Rattle.wm_http.specs.declared.request.Cut.TheVariants as of_cut
 use Rattle.wm_http.specs.declared.route.Route.{Route}
 use Rattle.wm_http.specs.declared.route.Route.TheVariants as of_route
-use Rattle.wm_journal.specs.History.{History, reached}
-use Rattle.wm_journal.specs.declared.call_fault.CallFault.{CallFault}
-use Rattle.wm_journal.specs.declared.call_fault.CallFault.TheVariants as call_fault
+use Rattle.wm_floor.specs.History.{History, reached}
+use Rattle.wm_floor.specs.declared.call_fault.CallFault.{CallFault}
+use Rattle.wm_floor.specs.declared.call_fault.CallFault.TheVariants as call_fault
 use Rattle.wm_law.specs.declared.call.Call.TheVariants.{Change}
 use Rattle.wm_law.specs.declared.call.Entry.{Entry}
 use Rattle.wm_law.specs.declared.call.Reply.{Reply}

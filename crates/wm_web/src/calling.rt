@@ -4,7 +4,7 @@ ghost use Rattle.wm_floor.specs.Floor.{IsPassOf, IsSame};
 ghost use Rattle.wm_law.specs.Fit.{IsCommand};
 ghost use Rattle.wm_law.specs.declared.command.Command.{Command};
 ghost use Rattle.wm_web.specs.Answered.{AnswersCall, IsTakenUp, entered_answer, failed_answer, is_down};
-ghost use Rattle.wm_run.specs.Sayings.{AreOf};
+ghost use Rattle.wm_listing.specs.Said.{mention_of};
 ghost use Rattle.wm_web.specs.Told.{Tells};
 
 use crate::answered::Answered;
@@ -12,23 +12,23 @@ use crate::gate::Gate;
 use std::alloc::Global;
 use std::sync::Wait;
 use wm_base::{Name, NoMemory};
-use wm_floor::{Floor, FloorPass};
+use wm_floor::{CallFault, Floor, FloorPass};
 use wm_http::{Answer, Said};
-use wm_journal::CallFault;
 use wm_law::{Command, Reply};
-use wm_run::{Sayings, is_power_down, is_refused, line_of, sayings_of, user_call};
+use wm_listing::{Mention, mention_of, said};
+use wm_run::{is_power_down, is_refused, user_call};
 use wm_traits::{Clock, Keeper};
 
 // The answer of a command that was called, with its place.
 fn entered_answer(
     alloc: Global,
-    sayings: &Sayings,
+    mention: &Mention,
     place: u32,
     reply: &Reply,
 ) -> Result<Answer, NoMemory>
-    ensures { (c : Command) → AreOf c sayings.now → IfOk result (λ a. a ≡ entered_answer c place reply.now) }
+    ensures { (c : Command) → mention.now ≡ mention_of c → IfOk result (λ a. a ≡ entered_answer c place reply.now) }
 {
-    let line = Said::new(line_of(alloc, sayings, reply)?);
+    let line = Said::new(said(alloc, mention, reply)?);
     Ok(if is_refused(reply) {
         Answer::Refused(u64::from(place), line)
     } else {
@@ -37,10 +37,10 @@ fn entered_answer(
 }
 
 // What is told of a command that was called, with its place. An `Err` is want of memory.
-fn told(alloc: Global, sayings: &Sayings, place: u32, reply: &Reply) -> Result<Answered, NoMemory>
-    ensures { (c : Command) → AreOf c sayings.now → IfOk result (λ r. Tells c place reply.now r.answer r.down) }
+fn told(alloc: Global, mention: &Mention, place: u32, reply: &Reply) -> Result<Answered, NoMemory>
+    ensures { (c : Command) → mention.now ≡ mention_of c → IfOk result (λ r. Tells c place reply.now r.answer r.down) }
 {
-    let answer = entered_answer(alloc, sayings, place, reply)?;
+    let answer = entered_answer(alloc, mention, place, reply)?;
     Ok(Answered {
         answer,
         called: true,
@@ -79,13 +79,13 @@ pub(crate) fn call_command<K: Keeper, C: Clock, G: Gate, R: Wait>(
     ensures down { IfOk result (λ r. r.down ≡ is_down pass.old pass.new) }
     ensures err { OnErr result (IsTakenUp (AnswersCall floor.now.opening user.now command) pass.old pass.new) }
 {
-    let sayings = sayings_of(alloc, &command)?;
+    let mention = mention_of(&command);
     let call = user_call(alloc, user, command)?;
     gate.before(worker);
     let now = clock.now();
     match floor.call(rt, alloc, pass, call, now) {
         Ok(entered) => {
-            let told = told(alloc, &sayings, entered.place, &entered.reply)?;
+            let told = told(alloc, &mention, entered.place, &entered.reply)?;
             Ok(told)
         }
         Err(fault) => Ok(Answered {

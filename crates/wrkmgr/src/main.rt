@@ -1,6 +1,6 @@
 //! The program `wrkmgr`: `main` reads the words of the command line, makes the store that they name and the other real
 //! objects, makes the one call of `run`, of `serve` or of `drill`, and ends with its status. What is promised is the contract of
-//! `run` of `wm_run`, that of `serve` of `wm_serve` and that of `drill` of `wm_drill`. A server's objects are in `serving`, the
+//! `run` of `wm_run`, that of `serve` of `wm_serve` and that of `drill` of `wm_runs`. A server's objects are in `serving`, the
 //! seats of its threads in `seats`, and what wakes its monitors in `gate`.
 #![tactic(auto)]
 
@@ -11,8 +11,8 @@ mod serving;
 ghost use Rattle.std.specs.Prelude.{◌≡◌, ◌⊎◌, IfErr, codes, false, map, string_bytes, true};
 ghost use Rattle.std.specs.Process.{exit_status};
 ghost use Rattle.std.specs.Str.{bytes_eq};
-ghost use Rattle.wm_drill.specs.Drill.{IsAmong, drill_statuses};
-ghost use Rattle.wm_drill.specs.Words.{is_drill};
+ghost use Rattle.wm_runs.specs.Drill.{IsAmong, drill_statuses};
+ghost use Rattle.wm_runs.specs.Words.{is_drill};
 ghost use Rattle.wm_run.specs.Run.{IsRunStatus};
 ghost use Rattle.wm_run.specs.Words.{is_run};
 
@@ -22,10 +22,10 @@ use std::io::ErrorKind;
 use std::process::ExitCode;
 use std::sync::Wait;
 use wm_children::SysSpawner;
-use wm_drill::drill;
 use wm_outside::{MemKeeper, MemStore, ReadSource, SysClock, WriteSink};
 use wm_plan::{Plan, RunPlan, WordFault, read_words};
 use wm_run::{NO_MEMORY, WRONG_WORDS, run};
+use wm_runs::drill;
 use wm_sqlkeep::SqlStore;
 use wm_traits::{Spawner, Store};
 

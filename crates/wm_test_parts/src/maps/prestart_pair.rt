@@ -1,16 +1,14 @@
-// Prestart jobs and their requests, and std's own containers that are given the same calls.
+// Prestart jobs, and std's own container that is given the same calls.
 use anyhow::{Result, ensure};
 use std::alloc::Global;
 use std::collections::BTreeMap;
 use wm_base::{JobNumber, Name, QName, Serial};
-use wm_prestart::{PrestartEntry, PrestartJob, PrestartJobs, Readiness, Requests};
+use wm_indexes::{PrestartEntry, PrestartJob, PrestartJobs, Readiness};
 
 #[derive(Drop)]
 pub struct PrestartPair {
     jobs: PrestartJobs,
-    requests: Requests,
     other_jobs: BTreeMap<u64, PrestartJob>,
-    other_requests: BTreeMap<PrestartEntry, u32>,
 }
 
 fn qname(lib: &[u8], name: &[u8]) -> Result<QName> {
@@ -51,9 +49,7 @@ impl PrestartPair {
     pub fn new(alloc: Global) -> PrestartPair {
         PrestartPair {
             jobs: PrestartJobs::new(alloc),
-            requests: Requests::new(alloc),
             other_jobs: BTreeMap::new(alloc),
-            other_requests: BTreeMap::new(alloc),
         }
     }
 
@@ -78,30 +74,6 @@ impl PrestartPair {
         self.other_jobs.remove(&serial);
     }
 
-    /// A request more, or one less, or none.
-    pub fn request(&mut self, number: u64) -> Result<()> {
-        let entry = entry(number)?;
-        let count = self.other_requests.get(&entry).copied().unwrap_or(0);
-        match number / 4 % 5 {
-            0 => {
-                self.requests.clear(&entry);
-                self.other_requests.remove(&entry);
-            }
-            1 => {
-                self.requests.take(&entry);
-                self.other_requests.insert(entry, count.saturating_sub(1))?;
-            }
-            _ => {
-                self.requests.reserve(1)?;
-                if self.requests.count(&entry) < 1_000 {
-                    self.requests.add(&entry);
-                }
-                self.other_requests.insert(entry, count.saturating_add(1))?;
-            }
-        }
-        Ok(())
-    }
-
     /// Compares what both answer about an entry.
     pub fn compare(&self, entry: &PrestartEntry) -> Result<()> {
         ensure!(self.jobs.len() == self.other_jobs.len(), "len");
@@ -120,8 +92,6 @@ impl PrestartPair {
         ensure!(self.jobs.available(entry) == available, "available");
         let ours = self.jobs.first_idle(entry).map(|serial| serial.get());
         ensure!(ours == first.map(|least| least.1), "first idle");
-        let count = self.other_requests.get(entry).copied().unwrap_or(0);
-        ensure!(self.requests.count(entry) == count, "requests");
         Ok(())
     }
 

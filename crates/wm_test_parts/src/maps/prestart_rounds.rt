@@ -4,8 +4,8 @@ use anyhow::{Result, ensure};
 use std::alloc::Global;
 use wm_base::{Limit, Name, QName};
 use wm_desc::PreEntry;
+use wm_indexes::{Supply, replenish, use_done};
 use wm_law::{Why, Wish};
-use wm_prestart::{Supply, replenish, use_done};
 
 // A prime number, so that the multiples of another one are each number below it, in a scrambled order.
 const SERIALS: u64 = 211;
@@ -23,13 +23,12 @@ fn call_all(pair: &mut PrestartPair) -> Result<usize> {
         } else {
             pair.put(serial, &job(drawn / 7)?)?;
         }
-        pair.request(drawn / 5)?;
         pair.compare(&entry(count)?)?;
     }
     Ok(pair.len())
 }
 
-/// Jobs come, change and go by a scrambled order, and so do requests.
+/// Jobs come, change and go by a scrambled order.
 pub fn prestart_calls(alloc: Global) -> Result<usize> {
     let mut pair = PrestartPair::new(alloc);
     let called = call_all(&mut pair);

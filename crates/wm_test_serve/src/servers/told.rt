@@ -2,10 +2,9 @@
 use anyhow::{Result, bail};
 use std::alloc::Global;
 use std::str;
-use wm_floor::Log;
+use wm_floor::{Log, MonitorFault};
 use wm_listener::Returned;
 use wm_listing::push_entry;
-use wm_monitor::MonitorFault;
 use wm_serve::Stopped;
 
 /// Adds why a worker stopped.

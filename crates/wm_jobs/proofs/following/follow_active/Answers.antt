@@ -1,6 +1,6 @@
 use Rattle.std.proofs.Common.{Some, List, ℕ, refl, ap, sym, ◌∙◌, nat_eq}
 use Rattle.std.specs.Ordering.{nat_cmp}
-use Rattle.wm_active.specs.declared.acting.Acting.{Acting}
+use Rattle.wm_indexes.specs.declared.acting.Acting.{Acting}
 use Rattle.wm_desc.specs.Sorted.{added}
 use Rattle.wm_ordered.specs.Ordered.{key_of, with_value}
 use Rattle.wm_jobs.specs.Indexed.{acting_of, active_of}

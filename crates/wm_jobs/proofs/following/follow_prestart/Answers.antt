@@ -1,7 +1,7 @@
 use Rattle.std.proofs.Common.{Some, List, ℕ, refl, ap, sym, ◌∙◌, arith, nat_eq}
 use Rattle.wm_ordered.specs.Ordered.{key_of, with_value}
-use Rattle.wm_prestart.specs.declared.prestart_job.PrestartJob.{PrestartJob}
-use Rattle.wm_prestart.specs.OfJobs.{row_of}
+use Rattle.wm_indexes.specs.declared.prestart_job.PrestartJob.{PrestartJob}
+use Rattle.wm_indexes.specs.OfJobs.{row_of}
 use Rattle.wm_jobs.specs.Marked.{standing_as}
 use Rattle.wm_jobs.specs.Table.{serial_of}
 use Rattle.wm_jobs.proofs.Followed.{stays, joins, leaves, lacks}

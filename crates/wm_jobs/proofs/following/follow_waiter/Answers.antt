@@ -1,7 +1,7 @@
 use Rattle.std.proofs.Common.{◌≡◌, ℕ, cond, Option, is_some, refl, ap, sym, ◌∙◌, arith, nat_eq}
 use Rattle.wm_desc.specs.Sorted.{has_key}
-use Rattle.wm_waiting.specs.declared.waiter.Waiter.{Waiter}
-use Rattle.wm_waiting.specs.Waiting as waiting
+use Rattle.wm_ordered.specs.declared.waiter.Waiter.{Waiter}
+use Rattle.wm_ordered.specs.Waiting as waiting
 use Rattle.wm_pick.specs.Parts.{waiter_of}
 use Rattle.wm_jobs.specs.Marked.{standing_as}
 use Rattle.wm_jobs.specs.Standings.{bit}

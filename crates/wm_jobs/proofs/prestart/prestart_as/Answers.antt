@@ -1,8 +1,8 @@
 use Rattle.std.proofs.Common.{◌≡◌, true, cond, Some, None, ap, sym, ◌∙◌}
 use Rattle.wm_base.specs.declared.job.How.{How}
 use Rattle.wm_law.specs.Counts.{is_active}
-use Rattle.wm_prestart.specs.declared.prestart_job.Readiness.{Readiness}
-use Rattle.wm_prestart.specs.OfJobs.{entry_of, row_by}
+use Rattle.wm_indexes.specs.declared.prestart_job.Readiness.{Readiness}
+use Rattle.wm_indexes.specs.OfJobs.{entry_of, row_by}
 use Rattle.wm_jobs.specs.Marked.{standing_as}
 use Rattle.wm_jobs.proofs.prestart.prestart_as.Goals as goal
 

@@ -1,7 +1,7 @@
 use Rattle.std.proofs.Common.{◌≡◌, Bool, true, false, cond, ap, sym, ◌∙◌}
 use Rattle.wm_law.specs.Prestart.{is_available, is_idle}
-use Rattle.wm_prestart.specs.declared.prestart_job.Readiness.{Readiness}
-use Rattle.wm_prestart.specs.declared.prestart_job.Readiness.TheVariants.{Coming, Idle, Taken}
+use Rattle.wm_indexes.specs.declared.prestart_job.Readiness.{Readiness}
+use Rattle.wm_indexes.specs.declared.prestart_job.Readiness.TheVariants.{Coming, Idle, Taken}
 use Rattle.wm_jobs.specs.Marked.{standing_as}
 use Rattle.wm_jobs.proofs.prestart.readiness.Goals as goal
 

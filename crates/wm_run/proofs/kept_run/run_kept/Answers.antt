@@ -1,14 +1,14 @@
 use Rattle.std.proofs.Common.{◌≡◌, ◌<◌, ◌≤◌, ℕ, Option, None, option_to_list, refl, sym, ap, subst, ◌∙◌, inl, arith}
-use Rattle.wm_journal.specs.History.{reached}
-use Rattle.wm_journal.specs.Keeping.{telling}
-use Rattle.wm_journal.specs.Stored.{HasTables}
-use Rattle.wm_journal.specs.Trail.{HasTrail}
+use Rattle.wm_floor.specs.History.{reached}
+use Rattle.wm_floor.specs.Keeping.{telling}
+use Rattle.wm_floor.specs.Stored.{HasTables}
+use Rattle.wm_floor.specs.Trail.{HasTrail}
 use Rattle.wm_law.specs.Pending.{active}
 use Rattle.wm_law.specs.History.{IsLegal}
 use Rattle.wm_floor.specs.Floor.{Floored}
 use Rattle.wm_floor.specs.Ledger.{behind}
 use Rattle.wm_floor.specs.declared.opened.Opened.{Opened}
-use Rattle.wm_monitor.specs.declared.report.Report.{Report}
+use Rattle.wm_floor.specs.declared.report.Report.{Report}
 use Rattle.wm_run.specs.Grown.{session_of}
 use Rattle.wm_run.specs.Kept.{IsUnopened}
 use Rattle.wm_run.specs.Run.{IsServed}

@@ -1,4 +1,4 @@
-use Rattle.wm_run.proofs.Said.{lines_more}
+use Rattle.wm_run.proofs.LogLines.{lines_more}
 use Rattle.wm_run.proofs.log_lines.push_entries.Goals as goal
 
 pub loop-at-preserved : goal.loop-at-preserved

@@ -1,6 +1,6 @@
 use Rattle.std.proofs.Common.{◌≡◌, Err, ◌<◌, ◌∙◌, map, string_bytes, ap, subst, sym, arith}
-use Rattle.wm_journal.specs.Keeping.{telling}
-use Rattle.wm_journal.proofs.Staying.{Stays-same}
+use Rattle.wm_floor.specs.Keeping.{telling}
+use Rattle.wm_floor.proofs.Staying.{Stays-same}
 use Rattle.wm_run.specs.Kept.{HasHistory, IsUnopened}
 use Rattle.wm_run.specs.Outcome.{RunTakes}
 use Rattle.wm_run.specs.Words.{run_plan, settings_in, settings_of}

@@ -1,7 +1,7 @@
 use Rattle.std.proofs.Common.{map, string_bytes}
 use Rattle.wm_run.specs.Words.{settings_of}
 use Rattle.wm_runs.proofs.Chains.{make_chain, start_once}
-use Rattle.wm_runs.proofs.Counts.{out_never_falls, store_never_falls}
+use Rattle.wm_runs.proofs.PartCounts.{out_never_falls, store_never_falls}
 use Rattle.wm_runs.proofs.sequence.runs.Goals as goal
 
 pub returns-clause-chain : goal.returns-clause-chain

@@ -1,4 +1,4 @@
-use Rattle.wm_monitor.proofs.Attending.{attends_none, attends_then}
+use Rattle.wm_floor.proofs.Attending.{attends_none, attends_then}
 use Rattle.wm_serve.proofs.attendant.attend.Goals as goal
 
 pub turns-init : goal.turns-init

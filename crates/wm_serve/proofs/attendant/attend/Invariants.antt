@@ -1,4 +1,4 @@
-use Rattle.wm_monitor.specs.Attends.{MonitorAttends}
+use Rattle.wm_floor.specs.Attends.{MonitorAttends}
 use Rattle.wm_serve.proofs.attendant.attend.Given as goal
 
 -- the monitor has done its part since the loop began

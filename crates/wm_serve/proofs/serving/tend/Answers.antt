@@ -1,5 +1,5 @@
 use Rattle.std.proofs.Common.{refl, rules}
-use Rattle.wm_monitor.proofs.Attending.{attends_by, attends_then}
+use Rattle.wm_floor.proofs.Attending.{attends_by, attends_then}
 use Rattle.wm_serve.proofs.serving.tend.Goals as goal
 
 pub returns-in_err-wait-clause-tends : goal.returns-in_err-wait-clause-tends
@@ -10,7 +10,7 @@ returns-in_err-wait-clause-tends g c =
       to = c.wait.new.pass;
       had = search rules;
       has = refl;
-      part = attends_then f c.in-Some.pass c.turn.new.pass c.wait.new.pass _ _ _ (attends_by f 256 258 _ _ _ _ c.turn.ensures.part) (attends_by f 0 2 _ _ _ _ c.wait.ensures.part);
+      part = attends_then f c.in-Some.pass c.look_and_turn.new.pass c.wait.new.pass _ _ _ c.look_and_turn.ensures.part (attends_by f 0 2 _ _ _ _ c.wait.ensures.part);
     }
 
 pub returns-in_ok-wait-clause-tends : goal.returns-in_ok-wait-clause-tends
@@ -21,5 +21,5 @@ returns-in_ok-wait-clause-tends g c =
       to = c.wait.new.pass;
       had = search rules;
       has = refl;
-      part = attends_then f c.in-Some.pass c.turn.new.pass c.wait.new.pass _ _ _ (attends_by f 256 258 _ _ _ _ c.turn.ensures.part) (attends_by f 0 2 _ _ _ _ c.wait.ensures.part);
+      part = attends_then f c.in-Some.pass c.look_and_turn.new.pass c.wait.new.pass _ _ _ c.look_and_turn.ensures.part (attends_by f 0 2 _ _ _ _ c.wait.ensures.part);
     }

@@ -1,14 +1,14 @@
 use Rattle.std.proofs.Common.{◌≡◌, ◌∙◌, ◌≤◌, ℕ, Err, IfSome, List, Option, Some, ap, arith, inl, length, map, refl, string_bytes, subst, sym}
 use Rattle.wm_traits.specs.Cause.{raised}
 use Rattle.wm_law.specs.declared.call.Entry.{Entry}
-use Rattle.wm_journal.specs.Keeping.{telling}
-use Rattle.wm_journal.proofs.Staying.{Stays-same}
+use Rattle.wm_floor.specs.Keeping.{telling}
+use Rattle.wm_floor.proofs.Staying.{Stays-same}
 use Rattle.wm_plan.specs.declared.plan.ServePlan.{ServePlan}
-use Rattle.wm_run.specs.Kept.{HasBadRow}
+use Rattle.wm_run.specs.Kept.{HasBadRow, store_status}
 use Rattle.wm_run.proofs.Openings.{Grows-stays}
 use Rattle.wm_serve.specs.Done.{AreServedBy}
 use Rattle.wm_serve.specs.Seats.{tellers}
-use Rattle.wm_serve.specs.Server.{HasLog, are_fit, limit_of, offset_of, serve_plan, store_status}
+use Rattle.wm_serve.specs.Server.{HasLog, are_fit, limit_of, offset_of, serve_plan}
 use Rattle.wm_serve.proofs.Histories.{written_none}
 use Rattle.wm_serve.proofs.Seatings.{vacant_all}
 use Rattle.wm_serve.proofs.Stores.{any_seats, bad_row_of_store, fault_of_store, fit_seats, log_left, log_of_store, opened_early, opened_once, opened_unfit, store_failed, store_listed, store_range, store_unopened, words_begun, words_either, words_listed, words_unopened}

@@ -4,9 +4,9 @@ use Rattle.wm_traits.specs.Cause.{raised}
 use Rattle.wm_law.specs.Pending.{active}
 use Rattle.wm_law.specs.declared.call.Entry.{Entry}
 use Rattle.wm_law.specs.declared.state.State.{State}
-use Rattle.wm_journal.specs.History.{reached}
-use Rattle.wm_journal.specs.Keeping.{telling}
-use Rattle.wm_journal.specs.Trail.{HasTrail}
+use Rattle.wm_floor.specs.History.{reached}
+use Rattle.wm_floor.specs.Keeping.{telling}
+use Rattle.wm_floor.specs.Trail.{HasTrail}
 use Rattle.wm_floor.specs.Ledger.{behind, caller_of}
 use Rattle.wm_turn.specs.Passed.{own}
 use Rattle.wm_serve.specs.Seats.{takes_pass, tellers}

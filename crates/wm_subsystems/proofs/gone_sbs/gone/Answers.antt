@@ -1,6 +1,6 @@
 use Rattle.std.proofs.Common.{◌∙◌, ◌&&◌, ap, nat_eq}
-use Rattle.wm_tally.specs.declared.counted.Counted.TheVariants.{Sbs}
-use Rattle.wm_tally.specs.Tally.{count_of}
+use Rattle.wm_pick.specs.declared.counted.Counted.TheVariants.{Sbs}
+use Rattle.wm_pick.specs.Tally.{count_of}
 use Rattle.wm_subsystems.proofs.GoneAlike.{gone-alike}
 use Rattle.wm_subsystems.proofs.gone_sbs.gone.Goals as goal
 

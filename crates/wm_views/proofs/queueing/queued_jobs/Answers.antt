@@ -2,7 +2,7 @@
 use Rattle.std.proofs.Common.{◌≡◌, ◌∙◌, ◌++◌, ◌∷◌, [], ℕ, List, ap, subst}
 use Rattle.std.specs.Option.{option_copied}
 use Rattle.wm_law.specs.declared.job.Job.{Job}
-use Rattle.wm_waiting.specs.Waiting.{HavePlaces, first_on, next_on}
+use Rattle.wm_ordered.specs.Waiting.{HavePlaces, first_on, next_on}
 use Rattle.wm_pick.specs.Parts.{waiters}
 use Rattle.wm_views.specs.declared.shown.JobLine.{JobLine}
 use Rattle.wm_views.specs.Lines.{job_line}

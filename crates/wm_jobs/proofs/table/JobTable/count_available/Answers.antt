@@ -1,8 +1,8 @@
 use Rattle.std.proofs.Common.{◌∙◌, ap}
 use Rattle.wm_law.specs.Prestart as law
-use Rattle.wm_prestart.specs.OfJobs.{entry_of}
-use Rattle.wm_prestart.specs.Ready.{available}
-use Rattle.wm_prestart.proofs.OfJobs.{available_are_counted}
+use Rattle.wm_indexes.specs.OfJobs.{entry_of}
+use Rattle.wm_indexes.specs.Ready.{available}
+use Rattle.wm_indexes.proofs.OfJobs.{available_are_counted}
 use Rattle.wm_jobs.specs.Table.{Table}
 use Rattle.wm_jobs.proofs.table.JobTable.count_available.Goals as goal
 

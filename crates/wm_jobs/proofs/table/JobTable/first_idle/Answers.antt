@@ -1,8 +1,8 @@
 use Rattle.std.proofs.Common.{◌≡◌, ◌∙◌, ap, sym, None, Some, option_map}
 use Rattle.wm_law.specs.Prestart as law
-use Rattle.wm_prestart.specs.OfJobs.{entry_of}
-use Rattle.wm_prestart.specs.Ready.{first_idle}
-use Rattle.wm_prestart.proofs.OfJobs.{first_idle_is_found}
+use Rattle.wm_indexes.specs.OfJobs.{entry_of}
+use Rattle.wm_indexes.specs.Ready.{first_idle}
+use Rattle.wm_indexes.proofs.OfJobs.{first_idle_is_found}
 use Rattle.wm_jobs.specs.Table.{Table, serial_of}
 use Rattle.wm_jobs.proofs.Lesser.{idle-there}
 use Rattle.wm_jobs.proofs.One.{none-found, some-found}

@@ -1,6 +1,6 @@
 use Rattle.std.proofs.Common.{◌≡◌, ◌∙◌, ◌==◌, ap, sym, subst, ℕ, None, Some, find, option_map}
 use Rattle.std.proofs.lemmas.Bool.{eqb-true}
-use Rattle.wm_active.specs.Active as active
+use Rattle.wm_indexes.specs.Active as active
 use Rattle.wm_law.specs.declared.job.Job.{Job}
 use Rattle.wm_law.specs.Reports.{is_to_kill}
 use Rattle.wm_law.proofs.Members.{found_among}

@@ -1,5 +1,5 @@
 use Rattle.std.proofs.Common.{◌∙◌, ap}
-use Rattle.wm_active.specs.Active as active
+use Rattle.wm_indexes.specs.Active as active
 use Rattle.wm_jobs.proofs.Asked.{kills-asked}
 use Rattle.wm_jobs.proofs.table.JobTable.kills.Goals as goal
 

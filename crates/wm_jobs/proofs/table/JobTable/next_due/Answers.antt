@@ -2,8 +2,8 @@ use Rattle.std.proofs.Common.{◌≡◌, ◌∙◌, ap, true, is_some, None, Lis
 use Rattle.std.proofs.lemmas.List.Elements.{All-weaker}
 use Rattle.wm_law.specs.declared.job.Job.{Job}
 use Rattle.wm_law.specs.Counts.{is_waiting}
-use Rattle.wm_waiting.specs.declared.waiter.Waiter.{Waiter}
-use Rattle.wm_waiting.specs.Waiting.{next_due}
+use Rattle.wm_ordered.specs.declared.waiter.Waiter.{Waiter}
+use Rattle.wm_ordered.specs.Waiting.{next_due}
 use Rattle.wm_jobs.specs.TableInside.{IsListed}
 use Rattle.wm_jobs.proofs.JobParts.{due-waiters}
 use Rattle.wm_jobs.proofs.table.JobTable.next_due.Goals as goal

@@ -1,5 +1,5 @@
 use Rattle.std.proofs.Common.{ℕ, ◌∙◌, ap}
-use Rattle.wm_active.specs.Active as active
+use Rattle.wm_indexes.specs.Active as active
 use Rattle.wm_jobs.proofs.Asked.{wishes-asked}
 use Rattle.wm_jobs.proofs.table.JobTable.next_wish.Goals as goal
 

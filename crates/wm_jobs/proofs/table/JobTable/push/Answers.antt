@@ -1,7 +1,7 @@
 use Rattle.std.proofs.Common.{◌≡◌, ◌+◌, ◌-◌, length, vec_capacity, refl, ap, sym, ◌∙◌, arith}
 use Rattle.std.specs.Ordering.{nat_cmp}
 use Rattle.wm_ordered.proofs.Keyed.{length-added}
-use Rattle.wm_waiting.specs.Waiting.{serial_of as waiting_serial}
+use Rattle.wm_ordered.specs.Waiting.{serial_of as waiting_serial}
 use Rattle.wm_jobs.specs.Table.{Table}
 use Rattle.wm_jobs.specs.TableInside.{pending_of}
 use Rattle.wm_jobs.proofs.AtEnd.{push-finds, pushed-inside}

@@ -1,7 +1,7 @@
 use Rattle.std.proofs.Common.{ap, ◌∙◌}
 use Rattle.wm_law.specs.declared.state.State.{State}
 use Rattle.wm_law.specs.Counts.{count_by_route}
-use Rattle.wm_tally.proofs.TalliedJobs.{tally_has_counts}
+use Rattle.wm_pick.proofs.TalliedJobs.{tally_has_counts}
 use Rattle.wm_pick.proofs.parts.Parts.count_by_route.Goals as goal
 
 pub returns : goal.returns

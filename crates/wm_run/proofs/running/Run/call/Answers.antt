@@ -27,13 +27,13 @@ returns-in_err-place-clause-watch g c = looked_still c.args.self.now.watch c.ent
 pub returns-clause-ready : goal.returns-clause-ready
 returns-clause-ready g c =
     let e = c.enter.ensures in
-    let k = c.see.ensures in
+    let k = c.see-waiting.ensures in
     running_called c.args.self.now c.enter.new.self _ _ c.requires.ready e.floor e.own e.same e.watch refl refl k.own k.same c.in_ok-place.ensures.place k.seen
 
 pub returns-clause-serves : goal.returns-clause-serves
 returns-clause-serves g c s =
     let e = c.enter.ensures in
-    let k = c.see.ensures in
+    let k = c.see-waiting.ensures in
     let ready = running_called c.args.self.now c.enter.new.self _ _ c.requires.ready e.floor e.own e.same e.watch refl refl k.own k.same c.in_ok-place.ensures.place k.seen in
     serves_session c.args.self.now _ s c.requires.ready ready e.floor (pass_called _ _ e.same e.mark c.in_ok-place.ensures.ok)
-    (subst (λ (p : Seen _). HasLooked p c.see.new.pass) e.watch k.looked) (subst (λ (p : Seen _). IsSame p c.see.new.pass) e.watch k.same) e.monitor
+    (subst (λ (p : Seen _). HasLooked p c.see-waiting.new.pass) e.watch k.looked) (subst (λ (p : Seen _). IsSame p c.see-waiting.new.pass) e.watch k.same) e.monitor

@@ -13,17 +13,18 @@ turns-init g c = record { ready = c.requires.ready; floor = refl; session = refl
 pub turns-preserved : goal.turns-preserved
 turns-preserved g c =
     let i = c.turns.invariant in
+    let l = c.waiting-waiting.ensures in
     let k = c.turn.ensures in
     record {
       ready = k.ready;
-      floor = k.floor ∙ i.floor;
-      session = k.session ∙ i.session;
-      serves = serves_then _ _ _ i.serves k.serves;
+      floor = k.floor ∙ (l.floor ∙ i.floor);
+      session = k.session ∙ (l.session ∙ i.session);
+      serves = serves_then _ _ _ i.serves (serves_then _ _ _ (l.serves _) k.serves);
       looked = let a = i.looked in let b = k.causes.looked in omega arith;
     }
 
 pub returns-in_err-turned-clause-serves : goal.returns-in_err-turned-clause-serves
-returns-in_err-turned-clause-serves g c = serves_then _ _ _ c.turns.invariant.serves c.turn.ensures.serves
+returns-in_err-turned-clause-serves g c = serves_then _ _ _ c.turns.invariant.serves (serves_then _ _ _ (c.waiting-waiting.ensures.serves _) c.turn.ensures.serves)
 
 pub returns-in_err-turned-clause-causes : goal.returns-in_err-turned-clause-causes
 returns-in_err-turned-clause-causes g c =
@@ -31,11 +32,13 @@ returns-in_err-turned-clause-causes g c =
     HasCauses-pass c.turn.result c.from_residual.result _ p.0 0 0 0 _ _ _ c.in_err-turned.was p.1 p.2 (omega arith) c.turns.invariant.looked c.turn.ensures.causes
 
 pub returns-then-turned-eq0-clause-serves : goal.returns-then-turned-eq0-clause-serves
-returns-then-turned-eq0-clause-serves g c = serves_then _ _ _ c.turns.invariant.serves c.turn.ensures.serves
+returns-then-turned-eq0-clause-serves g c = serves_then _ _ _ c.turns.invariant.serves (serves_then _ _ _ (c.waiting-waiting.ensures.serves _) c.turn.ensures.serves)
 
 pub returns-then-turned-eq0-clause-orders : goal.returns-then-turned-eq0-clause-orders
 returns-then-turned-eq0-clause-orders g c =
     let i = c.turns.invariant in
     let t = c.if-turned-eq0.true in
     let zero : c.in_ok-turned.turned.sent ≡ 0 = grind (arith, nat_tests) in
-    left_no_order _ _ _ _ _ _ c.turn.ensures.floor i.ready.one (grown_longer _ _ i.serves.part.part.pass.seen) (sym c.in_ok-turned.ensures.sent ∙ zero) c.in_ok-turned.ensures.waited c.in_ok-turned.ensures.handed
+    let l = c.waiting-waiting.ensures in
+    let both = serves_then _ _ _ i.serves (l.serves _) in
+    left_no_order _ _ _ _ _ _ (c.turn.ensures.floor) l.ready.one (grown_longer _ _ both.part.part.pass.seen) (sym c.in_ok-turned.ensures.sent ∙ zero) c.in_ok-turned.ensures.waited c.in_ok-turned.ensures.handed

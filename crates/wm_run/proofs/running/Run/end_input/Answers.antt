@@ -2,7 +2,7 @@ use Rattle.std.proofs.Common.{◌≡◌, ◌≤◌, List, length, sym, subst, ap
 use Rattle.wm_base.proofs.Lists.{on_err}
 use Rattle.wm_law.specs.declared.call.Entry.{Entry}
 use Rattle.wm_floor.specs.Floor.{Floored, HasLooked, Seen}
-use Rattle.wm_monitor.specs.Scene.{spawner_seen}
+use Rattle.wm_floor.specs.Scene.{spawner_seen}
 use Rattle.wm_run.specs.Calls.{Called}
 use Rattle.wm_run.proofs.Readies.{uncalled_same, uncalled_seen}
 use Rattle.wm_run.proofs.Servings.{serves_then}
@@ -49,6 +49,6 @@ returns-clause-ended g c log h =
     let s = c.wait_for.new.self in
     let d = c.catch_up.new.self in
     let t = c.call.new.self in
-    let called = subst (λ (f : Floored _). Called f.opening c.in_ok-end.end (g.C.Clock.coming c.wait_for.new.clock) d.session t.session c.in_ok-call.field-0) c.catch_up.ensures.floor c.in_ok-call.ensures.called in
+    let called = subst (λ (f : Floored _). Called f.opening c.in_ok-end.end (g.C.Clock.coming c.wait_for.new.clock) d.session t.session c.in_ok-call.field-0.0) c.catch_up.ensures.floor c.in_ok-call.ensures.called in
     let watched = subst (λ (p : Seen _). HasLooked p t.watch) c.catch_up.ensures.watch c.call.ensures.watch in
     ends_input r s t d.session log c.wait_for.ensures.floor c.wait_for.ensures.session c.wait_for.ensures.ready c.call.ensures.ready c.catch_up.ensures.session c.catch_up.ensures.ready.zero (let a = c.in_ok-at.ensures.at in let b = c.catch_up.ensures.seen in omega arith) called watched c.in_ok-call.ensures.seen h c.in_ok-end.ensures.call c.in_ok-at.ensures.none

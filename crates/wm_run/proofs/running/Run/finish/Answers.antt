@@ -1,6 +1,6 @@
 use Rattle.std.proofs.Common.{List, inl, inr}
 use Rattle.wm_law.specs.declared.call.Entry.{Entry}
-use Rattle.wm_monitor.specs.Lists.{since}
+use Rattle.wm_floor.specs.Lists.{since}
 use Rattle.wm_run.specs.Grown.{session_of}
 use Rattle.wm_run.specs.Serving.{IsHistory}
 use Rattle.wm_run.specs.Stopped.{MayClose}

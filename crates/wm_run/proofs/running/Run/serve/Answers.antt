@@ -1,6 +1,6 @@
 use Rattle.std.proofs.Common.{Bool, subst, ◌∙◌}
 use Rattle.std.proofs.lemmas.Result.{err_from_is_err_and}
-use Rattle.wm_monitor.specs.Lists.{since}
+use Rattle.wm_floor.specs.Lists.{since}
 use Rattle.wm_turn.proofs.Histories.{starts_again}
 use Rattle.wm_floor.specs.Ledger.{behind}
 use Rattle.wm_run.specs.Grown.{session_of}

@@ -2,7 +2,7 @@
 use Rattle.std.proofs.Common.{ap, ◌∙◌}
 use Rattle.wm_law.specs.declared.state.State.{State}
 use Rattle.wm_law.specs.Counts.{count_in_sbs}
-use Rattle.wm_tally.proofs.TalliedJobs.{tally_has_counts}
+use Rattle.wm_pick.proofs.TalliedJobs.{tally_has_counts}
 use Rattle.wm_views.proofs.parts.Parts.count_in_sbs.Goals as goal
 
 pub returns : goal.returns

@@ -1,4 +1,0 @@
-pub mod Active
-pub mod ActiveInside
-pub mod Moments
-pub mod Turns

@@ -1,4 +1,0 @@
-pub mod Changes
-pub mod Difference
-pub mod Laws
-pub mod Noted

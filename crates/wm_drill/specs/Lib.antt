@@ -1,6 +1,0 @@
-pub mod Counts
-pub mod Draws
-pub mod Drill
-pub mod Unfailing
-pub mod Text
-pub mod Words

@@ -1,0 +1,14 @@
+pub mod FullNames
+pub mod Names
+pub mod NamesInside
+pub mod Namesakes
+pub mod Refs
+pub mod Active
+pub mod ActiveInside
+pub mod Moments
+pub mod Turns
+pub mod OfJobs
+pub mod PrestartInside
+pub mod Ready
+pub mod Seats
+pub mod Supply

@@ -1,4 +1,0 @@
-pub mod JobText
-pub mod Reading
-pub mod Scan
-pub mod Stored

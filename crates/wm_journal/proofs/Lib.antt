@@ -1,6 +1,0 @@
-pub mod Additions
-pub mod Journals
-pub mod Openings
-pub mod Staying
-pub mod Steps
-pub mod Trails

@@ -1,5 +1,0 @@
--- proofs/viewing/view/Answers.antt
-use Rattle.wm_journal.proofs.viewing.view.Goals as goal
-
-pub returns : goal.returns
-returns c = c.view.ensures c.args.core.now.state c.parts.ensures

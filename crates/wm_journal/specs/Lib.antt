@@ -1,8 +1,0 @@
-pub mod History
-pub mod Journaled
-pub mod Keeping
-pub mod Limit
-pub mod OpenFaults
-pub mod Stored
-pub mod Taken
-pub mod Trail

@@ -1,5 +1,0 @@
-use Rattle.wm_names.proofs.EachRow.{NoneFrom}
-use Rattle.wm_names.proofs.full_names.place_of.Given as goal
-
-abbrev pub invariant-loop-at : goal.invariant-loop-at
-invariant-loop-at l = NoneFrom l.row l.rows l.at

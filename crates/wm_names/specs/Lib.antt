@@ -1,5 +1,0 @@
-pub mod FullNames
-pub mod Names
-pub mod NamesInside
-pub mod Namesakes
-pub mod Refs

@@ -1,0 +1,34 @@
+use Rattle.std.proofs.Common.{◌≡◌, Option, None, ap, sym, ◌∙◌, subst, nat_eq}
+use Rattle.std.specs.Ordering.{nat_cmp}
+use Rattle.wm_desc.specs.Sorted.{IsSortedOnce, with_key}
+use Rattle.wm_ordered.specs.Ordered.{first_above}
+use Rattle.wm_ordered.specs.declared.waiter.Waiter.{Waiter}
+use Rattle.wm_ordered.specs.declared.keys.Spot.{Spot}
+use Rattle.wm_ordered.specs.Keys.{waiters_of}
+use Rattle.wm_ordered.specs.Orders.{spot_cmp}
+use Rattle.wm_ordered.specs.Waiting.{Waiting, serial_of, next_on}
+use Rattle.wm_ordered.proofs.NextLines.{next-absent, next-other, next-found}
+use Rattle.wm_ordered.proofs.waiting.WaitingJobs.next_on.Goals as goal
+
+pub returns-in_default : goal.returns-in_default
+returns-in_default c =
+    let after = c.args.after.now in
+    let at = ap (λ (s : Spot). first_above spot_cmp s c.self.inside.lines.items) (sym c.of.ensures) in
+    subst (λ (p : Waiting). ◌≡◌ {A = Option Waiter} None (next_on after p.items)) c.self.view_is
+    (sym (next-absent after (waiters_of c.self.inside.all.items) c.self.inside.lines.items c.self.invariant.lines c.len-2.ensures.sorted (at ∙ sym c.in_default.ensures)))
+
+pub returns-then-is_on : goal.returns-then-is_on
+returns-then-is_on c =
+    let after = c.args.after.now in
+    let at = ap (λ (s : Spot). first_above spot_cmp s c.self.inside.lines.items) (sym c.of.ensures) in
+    let serials = subst (λ (p : Waiting). IsSortedOnce serial_of nat_cmp p.items) (sym c.self.view_is) c.len.ensures.sorted in
+    let found = next-found after (waiters_of c.self.inside.all.items) c.self.inside.lines.items c.self.invariant.lines c.len-2.ensures.sorted c.self.invariant.places serials (c.in-Some.spot, c.in-Some.serial) (at ∙ sym c.in-Some.ensures) (sym c.if-is_on.ensures) in
+    c.waiter.ensures ∙ sym (subst (λ (p : Waiting). next_on after p.items ≡ with_key serial_of nat_eq c.in-Some.serial p.items) c.self.view_is found)
+
+pub returns-else-is_on : goal.returns-else-is_on
+returns-else-is_on c =
+    let after = c.args.after.now in
+    let at = ap (λ (s : Spot). first_above spot_cmp s c.self.inside.lines.items) (sym c.of.ensures) in
+    let serials = subst (λ (p : Waiting). IsSortedOnce serial_of nat_cmp p.items) (sym c.self.view_is) c.len.ensures.sorted in
+    subst (λ (p : Waiting). ◌≡◌ {A = Option Waiter} None (next_on after p.items)) c.self.view_is
+    (sym (next-other after (waiters_of c.self.inside.all.items) c.self.inside.lines.items c.self.invariant.lines c.len-2.ensures.sorted c.self.invariant.places serials (c.in-Some.spot, c.in-Some.serial) (at ∙ sym c.in-Some.ensures) (sym c.if-is_on.ensures)))

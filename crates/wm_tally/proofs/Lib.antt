@@ -1,4 +1,0 @@
-pub mod KeysOf
-pub mod RowLemmas
-pub mod TalliedJobs
-pub mod TallyLemmas

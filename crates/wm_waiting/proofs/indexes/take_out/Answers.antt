@@ -1,8 +1,0 @@
-use Rattle.std.proofs.Common.{arith}
-use Rattle.wm_ordered.proofs.Keyed.{length-removed}
-use Rattle.wm_waiting.proofs.indexes.take_out.Goals as goal
-
-pub returns-clause-capacity : goal.returns-clause-capacity
-returns-clause-capacity g c =
-    let less = length-removed g.met.K.Ord.total g.K.PartialEq.eq g.met.K.Ord.matches_eq c.args.key.now c.args.rows.now.items c.len.ensures.sorted in
-    rw c.remove.ensures.items (rw c.remove.ensures.spare (rw c.remove.ensures.value (omega (arith, less))))

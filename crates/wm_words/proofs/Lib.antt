@@ -1,4 +1,0 @@
-pub mod Back
-pub mod Digits
-pub mod Forms
-pub mod Plain
