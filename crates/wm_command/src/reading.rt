@@ -85,7 +85,7 @@ fn first_item(alloc: Global, rows: &[Row], item: &Item) -> Result<Values, CmdFau
     ensures ok { IfOk result (λ given. first_item rows.now item.now ≡ Ok given) }
     ensures err { IfErr result (λ e. e ≢ CmdFault.NoMemory → first_item rows.now item.now ≡ Err e) }
 {
-    let mut values = Values::new(alloc);
+    let mut values = Values::with_room(alloc, rows.len())?;
     if key_of(item).is_some() {
         next_item(alloc, rows, &mut values, item)?;
         return Ok(values);
@@ -104,7 +104,7 @@ fn items_given(alloc: Global, rows: &[Row], items: &[Item]) -> Result<Values, Cm
     ensures err { IfErr result (λ e. e ≢ CmdFault.NoMemory → items_given rows.now items.now ≡ Err e) }
 {
     match items {
-        [] => Ok(Values::new(alloc)),
+        [] => Ok(Values::with_room(alloc, rows.len())?),
         [first, rest @ ..] => {
             let mut values = first_item(alloc, rows, first)?;
             for item in rest {

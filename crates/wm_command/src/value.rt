@@ -52,15 +52,16 @@ impl Model for Values {
 }
 
 impl Values {
-    ghost use Rattle.std.specs.Prelude.{◌≡◌, ◌++◌, ◌∷◌, [], OnOk, OnErr};
+    ghost use Rattle.std.specs.Prelude.{◌≡◌, ◌++◌, ◌∷◌, [], IfOk, OnOk, OnErr};
 
-    pub fn new(alloc: Global) -> Values
-        ensures { result ≡ [] }
+    /// No value, with room for so many. An `Err` is want of memory.
+    pub fn with_room(alloc: Global, most: usize) -> Result<Values, NoMemory>
+        ensures { IfOk result (λ values. values ≡ []) }
     {
-        Values {
+        Ok(Values {
             alloc,
-            items: Vec::new(alloc),
-        }
+            items: Vec::with_capacity(alloc, most)?,
+        })
     }
 
     /// Adds a key with its value at the end. An `Err` is want of memory, and they are as before.

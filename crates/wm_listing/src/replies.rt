@@ -2,14 +2,19 @@
 ghost use Rattle.std.specs.Prelude.{◌≡◌, ◌++◌, IfOk, OnOk, codes, string_bytes};
 ghost use Rattle.wm_base.specs.JobName.{job_name_text};
 ghost use Rattle.wm_base.specs.QName.{qname_text};
+ghost use Rattle.wm_base.specs.Refusal.{refusal_text};
 ghost use Rattle.std.specs.Fmt.{decimal};
 ghost use Rattle.wm_listing.specs.Said.{behind_blank, made_text, mention_of, noted_text, order_text, prestart_text, queue_text, said_of, subject_of};
 
 use crate::mention::{Mention, Subject};
 use std::alloc::Global;
-use wm_base::{Asked, JobName, NoMemory, QName};
+use std::fmt::Write;
+use wm_base::{Asked, JobName, NoMemory, QName, Refusal};
 use wm_command::{change_word, verb_of};
 use wm_law::{Command, Reply};
+
+// So many bytes hold most lines with their end.
+const LINE: usize = 64;
 
 // What is ordered, with the job's serial.
 fn order_text(alloc: Global, asked: &Asked) -> Result<String, NoMemory>
@@ -24,14 +29,40 @@ fn order_text(alloc: Global, asked: &Asked) -> Result<String, NoMemory>
     }
 }
 
+// The beginning of a line, with room for the rest of most.
+fn begun(alloc: Global, first: &str) -> Result<String, NoMemory>
+    ensures { IfOk result (λ text. string_bytes text ≡ first.now) }
+{
+    let mut text = String::with_capacity(alloc, LINE)?;
+    text.push_str(first)?;
+    Ok(text)
+}
+
+// A job, and what became of it.
+fn job_line(alloc: Global, job: &JobName, end: &str) -> Result<String, NoMemory>
+    ensures { IfOk result (λ text. string_bytes text ≡ codes "OK " ++ job_name_text job.now ++ end.now) }
+{
+    let mut text = begun(alloc, "OK ")?;
+    write!(text, "{job}")?;
+    text.push_str(end)?;
+    Ok(text)
+}
+
 // The job that was submitted, and its queue.
 fn submitted(alloc: Global, job: &JobName, jobq: &QName) -> Result<String, NoMemory>
     ensures { IfOk result (λ text. string_bytes text ≡ codes "OK " ++ job_name_text job.now ++ codes " submitted to " ++ qname_text jobq.now) }
 {
-    let mut text = format!(in alloc; "OK {job}")?;
-    text.push_str(" submitted to ")?;
-    let queue = jobq.to_string(alloc)?;
-    text.push_str(queue.as_str())?;
+    let mut text = job_line(alloc, job, " submitted to ")?;
+    write!(text, "{jobq}")?;
+    Ok(text)
+}
+
+// Why nothing was done.
+fn refused(alloc: Global, refusal: &Refusal) -> Result<String, NoMemory>
+    ensures { IfOk result (λ text. string_bytes text ≡ codes "NO " ++ refusal_text refusal.now) }
+{
+    let mut text = begun(alloc, "NO ")?;
+    write!(text, "{refusal}")?;
     Ok(text)
 }
 
@@ -79,24 +110,23 @@ pub fn mention_of(command: &Command) -> Mention
 }
 
 // Adds a blank and a name.
-fn push_qname(text: &mut String, alloc: Global, name: &QName) -> Result<(), NoMemory>
+fn push_qname(text: &mut String, name: &QName) -> Result<(), NoMemory>
     ensures { OnOk result (string_bytes text.new ≡ string_bytes text.old ++ (codes " " ++ qname_text name.now)) }
 {
     text.push_str(" ")?;
-    let name = name.to_string(alloc)?;
-    text.push_str(name.as_str())?;
+    write!(text, "{name}")?;
     Ok(())
 }
 
 // Adds a blank and what a command is about, where it is about something.
-fn push_subject(text: &mut String, alloc: Global, subject: &Subject) -> Result<(), NoMemory>
+fn push_subject(text: &mut String, subject: &Subject) -> Result<(), NoMemory>
     ensures { OnOk result (string_bytes text.new ≡ string_bytes text.old ++ behind_blank subject.now) }
 {
     match subject {
         Subject::Nothing => {}
-        Subject::Object(name) => push_qname(text, alloc, name)?,
+        Subject::Object(name) => push_qname(text, name)?,
         Subject::PreEntry { pgm, sbs } => {
-            push_qname(text, alloc, pgm)?;
+            push_qname(text, pgm)?;
             text.push_str(" in ")?;
             text.push_str(sbs.as_str())?;
         }
@@ -108,9 +138,9 @@ fn push_subject(text: &mut String, alloc: Global, subject: &Subject) -> Result<(
 fn made(alloc: Global, mention: &Mention) -> Result<String, NoMemory>
     ensures { IfOk result (λ text. string_bytes text ≡ made_text mention.now) }
 {
-    let mut text = String::from_str(alloc, "OK ")?;
+    let mut text = begun(alloc, "OK ")?;
     text.push_str(change_word(mention.verb))?;
-    push_subject(&mut text, alloc, &mention.subject)?;
+    push_subject(&mut text, &mention.subject)?;
     Ok(text)
 }
 
@@ -118,8 +148,8 @@ fn made(alloc: Global, mention: &Mention) -> Result<String, NoMemory>
 fn queue(alloc: Global, subject: &Subject, end: &str) -> Result<String, NoMemory>
     ensures { IfOk result (λ text. string_bytes text ≡ queue_text subject.now end.now) }
 {
-    let mut text = String::from_str(alloc, "OK queue")?;
-    push_subject(&mut text, alloc, subject)?;
+    let mut text = begun(alloc, "OK queue")?;
+    push_subject(&mut text, subject)?;
     text.push_str(end)?;
     Ok(text)
 }
@@ -137,8 +167,8 @@ fn cleared(alloc: Global, subject: &Subject, count: u32) -> Result<String, NoMem
 fn prestart(alloc: Global, subject: &Subject, end: &str) -> Result<String, NoMemory>
     ensures { IfOk result (λ text. string_bytes text ≡ prestart_text subject.now end.now) }
 {
-    let mut text = String::from_str(alloc, "OK prestart")?;
-    push_subject(&mut text, alloc, subject)?;
+    let mut text = begun(alloc, "OK prestart")?;
+    push_subject(&mut text, subject)?;
     text.push_str(end)?;
     Ok(text)
 }
@@ -151,7 +181,7 @@ pub fn noted(alloc: Global, reply: &Reply) -> Result<String, NoMemory>
         Reply::Order(asked) => order_text(alloc, asked.get()),
         Reply::Nothing => String::from_str(alloc, "NOTHING"),
         Reply::Noted => String::from_str(alloc, "NOTED"),
-        Reply::No(refusal) => format!(in alloc; "NO {refusal}"),
+        Reply::No(refusal) => refused(alloc, refusal),
         _ => Ok(String::new(alloc)),
     }
 }
@@ -165,19 +195,19 @@ pub fn said(alloc: Global, mention: &Mention, reply: &Reply) -> Result<String, N
         Reply::SbsStarted(sbs) => format!(in alloc; "OK subsystem {sbs} started"),
         Reply::SbsEnding(sbs) => format!(in alloc; "OK subsystem {sbs} ending"),
         Reply::Submitted(job, jobq) => submitted(alloc, job, jobq),
-        Reply::Held(job) => format!(in alloc; "OK {job} held"),
-        Reply::Released(job) => format!(in alloc; "OK {job} released"),
-        Reply::Changed(job) => format!(in alloc; "OK {job} changed"),
-        Reply::JobEnding(job) => format!(in alloc; "OK {job} ending"),
-        Reply::JobEnded(job) => format!(in alloc; "OK {job} ended"),
+        Reply::Held(job) => job_line(alloc, job, " held"),
+        Reply::Released(job) => job_line(alloc, job, " released"),
+        Reply::Changed(job) => job_line(alloc, job, " changed"),
+        Reply::JobEnding(job) => job_line(alloc, job, " ending"),
+        Reply::JobEnded(job) => job_line(alloc, job, " ended"),
         Reply::QueueHeld => queue(alloc, &mention.subject, " held"),
         Reply::QueueReleased => queue(alloc, &mention.subject, " released"),
         Reply::QueueCleared(count) => cleared(alloc, &mention.subject, *count),
         Reply::PreStarted => prestart(alloc, &mention.subject, " started"),
         Reply::PreEnding => prestart(alloc, &mention.subject, " ending"),
-        Reply::Evoked(job) => format!(in alloc; "OK {job} has the request"),
+        Reply::Evoked(job) => job_line(alloc, job, " has the request"),
         Reply::EvokeWaits(position) => format!(in alloc; "OK request waits as {position}"),
-        Reply::UseEnded(job) => format!(in alloc; "OK {job} use ended"),
+        Reply::UseEnded(job) => job_line(alloc, job, " use ended"),
         Reply::PowerDown => String::from_str(alloc, "OK power down"),
         Reply::Order(_) | Reply::Nothing | Reply::Noted | Reply::No(_) => noted(alloc, reply),
     }
