@@ -15,7 +15,7 @@ pub mod Advances
 pub mod Askings
 pub mod Attending
 pub mod MonitorCalls
-pub mod MonitorCausing
+pub mod MonitorCauses
 pub mod MonitorCounts
 pub mod Idles
 pub mod Lists

@@ -23,7 +23,7 @@ use wm_traits::{Clock, Keeper};
 
 /// How many entries a part of a turn made, and what waits behind them.
 #[derive(Clone, Copy)]
-pub(crate) struct Ticked {
+pub(crate) struct Progress {
     pub(crate) sent: u32,
     pub(crate) waiting: Waiting,
 }
@@ -93,7 +93,7 @@ pub(crate) fn tick<K: Keeper, C: Clock, R: Wait>(
     pass: &mut FloorPass<K>,
     clock: &mut C,
     waiting: Waiting,
-) -> Result<Ticked, MonitorFault>
+) -> Result<Progress, MonitorFault>
     requires own { IsPassOf floor.now pass.old }
     requires waits { Waits floor.now pass.old waiting }
     ensures part { (around : Scene) → Advances floor.now 0 1 pass.old pass.new around around }
@@ -108,8 +108,8 @@ pub(crate) fn tick<K: Keeper, C: Clock, R: Wait>(
         Some(due) if due <= now => {
             enter(rt, alloc, floor, pass, Call::Tick, now)?;
             let waiting = floor.waiting(rt, pass);
-            Ok(Ticked { sent: 1, waiting })
+            Ok(Progress { sent: 1, waiting })
         }
-        _ => Ok(Ticked { sent: 0, waiting }),
+        _ => Ok(Progress { sent: 0, waiting }),
     }
 }

@@ -1,5 +1,5 @@
 // What starts the jobs and reports how they ended, beside other callers.
-use crate::calling::{Ticked, enter, tick, waiting_since};
+use crate::calling::{Progress, enter, tick, waiting_since};
 use crate::monitor_fault::MonitorFault;
 use crate::report::Report;
 use crate::{Floor, FloorPass, Waiting, asking};
@@ -185,7 +185,7 @@ impl Monitor {
         spawner: &mut P,
         clock: &mut C,
         last: Waiting,
-    ) -> Result<Ticked, MonitorFault>
+    ) -> Result<Progress, MonitorFault>
         requires own { IsPassOf floor.now pass.old }
         requires waits { Waits floor.now pass.old last }
         ensures part { MonitorAdvances P.asked P.told P.misses P.faults floor.now 0 1 pass.old self.old spawner.old pass.new self.new spawner.new }
@@ -202,7 +202,7 @@ impl Monitor {
         let reported = self.send_kept(rt, alloc, floor, pass, clock)?;
         self.retry(spawner)?;
         let waiting = waiting_since(rt, floor, pass, last, reported);
-        Ok(Ticked {
+        Ok(Progress {
             sent: reported,
             waiting,
         })

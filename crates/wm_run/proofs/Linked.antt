@@ -9,7 +9,7 @@ use Rattle.wm_tables.specs.Restart.{IsBad, IsRestart}
 use Rattle.wm_tables.specs.Tables.{tables}
 use Rattle.wm_traits.specs.Told.{Stays}
 use Rattle.wm_traits.specs.declared.row.Row.{Row}
-use Rattle.wm_run.specs.Kept.{HasHistory, HasOpened, IsUnopened}
+use Rattle.wm_run.specs.Kept.{HasHistory, HasOpened, HasRun, IsUnopened}
 use Rattle.wm_run.specs.Laws.{BadRowsDontOpen, HasToldHistory, RunsMakeChains}
 use Rattle.wm_run.specs.Outcome.{RunTakes}
 use Rattle.wm_run.specs.declared.settings.Settings.{Settings}
@@ -23,7 +23,7 @@ stayed old new found left h first last = subst (λ (o : Option (List Row)). Stay
 
 module _ (settings : Settings) (status : ℕ) (log : List Entry) (found left : List Row) (t : HasToldHistory settings status log found left) where
   abbrev IsOpened : Type 0
-  IsOpened = HasOpened settings.offset status log t.old t.new (RunTakes settings t.left_before t.left_now status log t.written_before t.written_now)
+  IsOpened = HasOpened settings.offset log t.old t.new (HasRun status log (RunTakes settings t.left_before t.left_now status log t.written_before t.written_now))
 
   -- the rows that it opened with are those that were told
   restart_told : (h : IsOpened) → IsRestart settings.offset found h.opened

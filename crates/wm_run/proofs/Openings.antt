@@ -69,9 +69,9 @@ rows_found tables None (Some mid) trail'' (Some last) rows more told grown untol
 rows_found None (Some first) (Some mid) trail'' (Some last) rows more told grown untold both both' = absurd (true≢false both)
 rows_found (Some x) (Some first) (Some mid) trail'' (Some last) rows more told grown untold both both' = ap Some told
 
--- a run over a keeper whose floor was opened
-pub opened_run : {K : Type 0} {Came : State → Type 0} (offset : ℤ) (status : ℕ) (log : List Entry) (o : Opened K) (found opened closed : Telling) → IsOpened offset o.state found opened → IsLegal o.state log → NoneIsIdle monitor_pass [] o.state log → (status ≤ 1 → active (reached (behind o log)) ≡ 0) → HasTables (reached (behind o log)) closed.tables → HasTrail (behind o log) found closed → (opened.trail ≡ None → closed.trail ≡ None) → is_some found.trail ≡ is_some found.tables → is_some closed.trail ≡ is_some closed.tables → Came o.state → HasOpened offset status log found closed Came
-opened_run offset status log o found opened closed h legal no_idle idle tables trail untold both both' came =
+-- a floor over a keeper that was opened
+pub has_opened : {K : Type 0} {Came : State → Type 0} (offset : ℤ) (log : List Entry) (o : Opened K) (found opened closed : Telling) → IsOpened offset o.state found opened → IsLegal o.state log → HasTables (reached (behind o log)) closed.tables → HasTrail (behind o log) found closed → (opened.trail ≡ None → closed.trail ≡ None) → is_some found.trail ≡ is_some found.tables → is_some closed.trail ≡ is_some closed.tables → Came o.state → HasOpened offset log found closed Came
+has_opened offset log o found opened closed h legal tables trail untold both both' came =
     let sound = restart_is_sound offset h.found o.state h.restart in
     record {
       opened = o.state;
@@ -83,16 +83,14 @@ opened_run offset status log o found opened closed h legal no_idle idle tables t
       uses = uses_are_kept o.state log sound (restart_is_prestart_sound offset h.found o.state h.restart) legal (restart_is_within_maxuse offset h.found o.state h.restart);
       order = order_is_kept o.state log sound;
       starts = runs_start_once offset h.found o.state log h.restart legal;
-      no_idle = no_idle;
-      idle = idle;
       tables = tables;
       trail = trail;
       came = came;
     }
 
 -- one for whose turnstile there was no memory, once the rows of the opened state were kept
-opened_none : {Came : State → Type 0} (offset : ℤ) (status : ℕ) (s : State) (old new : Telling) → IsOpened offset s old new → (status ≤ 1 → ⊥) → is_some old.trail ≡ is_some old.tables → is_some new.trail ≡ is_some new.tables → Came s → HasOpened offset status [] old new Came
-opened_none offset status s old new h early both both' came =
+pub opened_none : {Came : State → Type 0} (offset : ℤ) (s : State) (old new : Telling) → IsOpened offset s old new → is_some old.trail ≡ is_some old.tables → is_some new.trail ≡ is_some new.tables → Came s → HasOpened offset [] old new Came
+opened_none offset s old new h both both' came =
     let sound = restart_is_sound offset h.found s h.restart in
     record {
       opened = s;
@@ -104,8 +102,6 @@ opened_none offset status s old new h early both both' came =
       uses = tt;
       order = order_is_kept s [] sound;
       starts = runs_start_once offset h.found s [] h.restart tt;
-      no_idle = tt;
-      idle = λ low. absurd (early low);
       tables = h.rows;
       trail = trail_opened offset s old new h;
       came = came;
@@ -136,8 +132,8 @@ trail_of_store h old found closed new rows were tables trail trail' both has = g
     go (Some told) s None k e = tt
     go (Some told) s (Some now) k e = grown told s now k (by new.tables were (sym e))
 
-pub opened_of_store : {Came : State → Type 0} (offset : ℤ) (status : ℕ) (log : List Entry) (old found closed new : Telling) → Stays old.tables found.tables → Stays old.trail found.trail → Stays closed.tables new.tables → Stays closed.trail new.trail → is_some new.trail ≡ is_some new.tables → HasOpened offset status log found closed Came → HasOpened offset status log old new Came
-opened_of_store offset status log old found closed new tables trail tables' trail' both h =
+pub opened_of_store : {Came : State → Type 0} (offset : ℤ) (log : List Entry) (old found closed new : Telling) → Stays old.tables found.tables → Stays old.trail found.trail → Stays closed.tables new.tables → Stays closed.trail new.trail → is_some new.trail ≡ is_some new.tables → HasOpened offset log found closed Came → HasOpened offset log old new Came
+opened_of_store offset log old found closed new tables trail tables' trail' both h =
     let were : IfSome new.tables (λ _. found.tables ≡ Some h.rows) = stays_if (λ _. found.tables ≡ Some h.rows) closed.tables new.tables tables' h.found in
     record {
       opened = h.opened;
@@ -149,8 +145,6 @@ opened_of_store offset status log old found closed new tables trail tables' trai
       uses = h.uses;
       order = h.order;
       starts = h.starts;
-      no_idle = h.no_idle;
-      idle = h.idle;
       tables = stays_if _ closed.tables new.tables tables' h.tables;
       trail = trail_of_store (record { opened = h.opened; log = log }) old found closed new h.rows were tables trail trail' both h.trail;
       came = h.came;
@@ -161,7 +155,7 @@ opened_of_store offset status log old found closed new tables trail tables' trai
     stays_if_told (Some last) k = stays_back h.rows old.tables found.tables tables k
 
 pub history_of_store : {Came : State → Type 0} (offset : ℤ) (status : ℕ) (log : List Entry) (old found closed new : Telling) → Stays old.tables found.tables → Stays old.trail found.trail → Stays closed.tables new.tables → Stays closed.trail new.trail → is_some new.trail ≡ is_some new.tables → HasHistory offset status log found closed Came → HasHistory offset status log old new Came
-history_of_store offset status log old found closed new tables trail tables' trail' both (inl h) = inl (opened_of_store offset status log old found closed new tables trail tables' trail' both h)
+history_of_store offset status log old found closed new tables trail tables' trail' both (inl h) = inl (opened_of_store offset log old found closed new tables trail tables' trail' both h)
 history_of_store offset status log old found closed new tables trail tables' trail' both (inr h) =
     inr (record {
       early = h.early;
@@ -181,7 +175,7 @@ not_opened offset status log old new early none tables trail came = inr (record 
 pub floor_not_opened : {Came : State → Type 0} (offset : ℤ) (status : ℕ) (log : List Entry) (old new : Telling) (fault : OpenFault) → IsUnopened status → 1 < status → log ≡ [] → IsLeftOrOpened offset old new fault → is_some old.trail ≡ is_some old.tables → is_some new.trail ≡ is_some new.tables → ((s : State) → Came s) → HasHistory offset status log old new Came
 floor_not_opened offset status log old new fault early high none (inl left) both both' came = not_opened offset status log old new early none left.tables left.trail came
 floor_not_opened {Came} offset status log old new fault early high none (inr (memory, opened)) both both' came =
-    subst (λ (es : List Entry). HasHistory offset status es old new Came) (sym none) (inl (opened_none offset status opened.0 old new opened.1 (λ low. absurd (omega (arith, high, low))) both both' (came opened.0)))
+    subst (λ (es : List Entry). HasHistory offset status es old new Came) (sym none) (inl (opened_none offset opened.0 old new opened.1 both both' (record { no_idle = tt; idle = λ low. absurd (omega (arith, high, low)); input = came opened.0 })))
 
 -- The status of a run whose machine didn't open
 

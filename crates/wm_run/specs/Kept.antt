@@ -20,8 +20,8 @@ use Rattle.wm_floor.specs.declared.open_fault.OpenFault.TheVariants as open_faul
 use Rattle.wm_tables.specs.Starts.{StartsOnce}
 use Rattle.wm_tables.specs.Restart.{IsBad, IsRestart}
 
--- a run that opened: its history is one from a state of the rows that it found, where local time is so far ahead of UTC
-pub record HasOpened (offset : ℤ) (status : ℕ) (log : List Entry) (old new : Telling) (Came : State → Type 0) : Type 0 where
+-- what was opened: the history is one from a state of the rows that were found, where local time is so far ahead of UTC, and this is so of that state
+pub record HasOpened (offset : ℤ) (log : List Entry) (old new : Telling) (Came : State → Type 0) : Type 0 where
   pub opened : State
   pub rows : List Row
   -- where the tables are told to the end, these are the rows that were told
@@ -32,12 +32,16 @@ pub record HasOpened (offset : ℤ) (status : ℕ) (log : List Entry) (old new :
   pub uses : KeepsUses opened log
   pub order : KeepsOrder opened log
   pub starts : StartsOnce rows opened log
-  pub no_idle : NoneIsIdle monitor_pass [] opened log
-  pub idle : status ≤ 1 → active (after opened log) ≡ 0
   pub tables : HasTables (after opened log) new.tables
   pub trail : HasTrail (record { opened = opened; log = log }) old new
-  -- and this is what came of the input
   pub came : Came opened
+
+-- what came of a run that opened with a state
+pub record HasRun (status : ℕ) (log : List Entry) (Came : State → Type 0) (opened : State) : Type 0 where
+  pub no_idle : NoneIsIdle monitor_pass [] opened log
+  pub idle : status ≤ 1 → active (after opened log) ≡ 0
+  -- and this is what came of the input
+  pub input : Came opened
 
 -- the statuses of a run, or of a server, that didn't open
 abbrev pub unopened_statuses : List ℕ
@@ -55,9 +59,9 @@ pub record HasNotOpened (status : ℕ) (log : List Entry) (old new : Telling) (C
   -- what came of the input holds of any state
   pub came : (s : State) → Came s
 
--- the one or the other
+-- a run that opened, or one that didn't
 abbrev pub HasHistory : ℤ → ℕ → List Entry → Telling → Telling → (State → Type 0) → Type 0
-HasHistory offset status log old new Came = HasOpened offset status log old new Came ⊎ HasNotOpened status log old new Came
+HasHistory offset status log old new Came = HasOpened offset log old new (HasRun status log Came) ⊎ HasNotOpened status log old new Came
 
 -- where the tables are told, they are as they were, and one of their rows isn't good where local time is so far ahead of UTC
 abbrev pub HasBadRow : ℤ → Option (List Row) → Option (List Row) → Type 0

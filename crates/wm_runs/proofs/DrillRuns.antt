@@ -10,7 +10,7 @@ use Rattle.wm_law.specs.Opening.{opening}
 use Rattle.wm_law.specs.declared.call.Entry.{Entry}
 use Rattle.wm_law.specs.declared.state.State.{State}
 use Rattle.wm_floor.specs.declared.report.Report.{Report}
-use Rattle.wm_run.specs.Kept.{HasBadRow, HasHistory, HasOpened, unopened_statuses}
+use Rattle.wm_run.specs.Kept.{HasBadRow, HasHistory, HasOpened, HasRun, unopened_statuses}
 use Rattle.wm_run.specs.Outcome.{RunTakes}
 use Rattle.wm_run.specs.Run.{IsServed}
 use Rattle.wm_run.specs.declared.settings.Settings.{Settings}
@@ -25,7 +25,7 @@ module _ (text : List ℕ) (status : ℕ) (log : List Entry) (kept : List Report
   Came = RunTakes drill_settings (Some text) (Some ran.left) status log (Some []) ran.written
 
   abbrev opened_first : Type 0
-  opened_first = HasOpened (pos 0) status log (tells [] ([] ∷ [])) (tells ran.tables ran.trail) Came
+  opened_first = HasOpened (pos 0) log (tells [] ([] ∷ [])) (tells ran.tables ran.trail) (HasRun status log Came)
 
   from_none : (h : opened_first) → h.opened ≡ opening (pos 0)
   from_none h = subst (λ (rows : List Row). IsRestart (pos 0) rows h.opened) (sym (Some-injective [] h.rows h.found)) h.restart
@@ -39,7 +39,7 @@ module _ (text : List ℕ) (status : ℕ) (log : List Entry) (kept : List Report
   legal_from_none none = legal_by ran.history none
 
   came_by : HasHistory (pos 0) status log (tells [] ([] ∷ [])) (tells ran.tables ran.trail) Came → (s : State) × Came s
-  came_by (inl h) = (h.opened, h.came)
+  came_by (inl h) = (h.opened, h.came.input)
   came_by (inr h) = (opening (pos 0), h.came (opening (pos 0)))
 
   -- a short text isn't too long

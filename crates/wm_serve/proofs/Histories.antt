@@ -30,46 +30,7 @@ use Rattle.wm_floor.specs.declared.opened.Opened.{Opened}
 use Rattle.wm_serve.specs.Ending.{HasWritten}
 use Rattle.wm_serve.specs.Server.{HasHistory, HasNone, IsServeStatus}
 
--- a server over a keeper whose floor was opened
-pub opened_server : {K : Type 0} (offset : ℤ) (status : ℕ) (log : List Entry) (o : Opened K) (found opened closed : Telling) (Done : State → List Entry → Type 0) → IsOpened offset o.state found opened → IsLegal o.state log → (status ≡ 0 → active (reached (behind o log)) ≡ 0) → HasTables (reached (behind o log)) closed.tables → HasTrail (behind o log) found closed → (opened.trail ≡ None → closed.trail ≡ None) → is_some found.trail ≡ is_some found.tables → is_some closed.trail ≡ is_some closed.tables → Done o.state log → HasHistory offset status log found closed Done
-opened_server offset status log o found opened closed Done h legal idle tables trail untold both both' done =
-    let sound = restart_is_sound offset h.found o.state h.restart in
-    record {
-      opened = o.state;
-      rows = h.found;
-      found = rows_found found.tables found.trail opened.trail closed.trail closed.tables h.found _ h.told h.trail untold both both';
-      restart = h.restart;
-      legal = legal;
-      limits = limits_are_kept o.state log sound;
-      uses = uses_are_kept o.state log sound (restart_is_prestart_sound offset h.found o.state h.restart) legal (restart_is_within_maxuse offset h.found o.state h.restart);
-      order = order_is_kept o.state log sound;
-      starts = runs_start_once offset h.found o.state log h.restart legal;
-      idle = idle;
-      tables = tables;
-      trail = trail;
-      done = done;
-    }
-
 -- A server whose floor didn't open
-
-opened_none : (offset : ℤ) (status : ℕ) (s : State) (old new : Telling) → IsOpened offset s old new → (status ≡ 0 → ⊥) → is_some old.trail ≡ is_some old.tables → is_some new.trail ≡ is_some new.tables → HasHistory offset status [] old new (λ opened es. ⊤)
-opened_none offset status s old new h early both both' =
-    let sound = restart_is_sound offset h.found s h.restart in
-    record {
-      opened = s;
-      rows = h.found;
-      found = rows_found old.tables old.trail new.trail new.trail new.tables h.found _ h.told h.trail (λ none. none) both both';
-      restart = h.restart;
-      legal = tt;
-      limits = limits_are_kept s [] sound;
-      uses = tt;
-      order = order_is_kept s [] sound;
-      starts = runs_start_once offset h.found s [] h.restart tt;
-      idle = λ ended. absurd (early ended);
-      tables = h.rows;
-      trail = trail_opened offset s old new h;
-      done = tt;
-    }
 
 pub unopened_server : (offset : ℤ) (fault : OpenFault) (status : ℕ) (old new : Telling) → status ≡ open_status fault → IsLeftOrOpened offset old new fault → is_some old.trail ≡ is_some old.tables → is_some new.trail ≡ is_some new.tables → HasNone offset status old new
 unopened_server offset fault status old new is left both both' = record { early = subst IsUnopened (sym is) (open_early fault); left = by left }
@@ -78,7 +39,7 @@ unopened_server offset fault status old new is left both both' = record { early 
     by (inl same) = inl same
     by (inr (memory, opened)) =
         let six : status ≡ 6 = is ∙ ap open_status memory in
-        inr (six, opened_none offset status opened.0 old new opened.1 (λ none. absurd (omega (arith, six, none))) both both')
+        inr (six, opened_none offset opened.0 old new opened.1 both both' (record { idle = λ none. absurd (omega (arith, six, none)); done = tt }))
 
 -- its status is none of words, and none but that of a fault of the rows
 pub open_begun : (fault : OpenFault) (status : ℕ) → status ≡ open_status fault → 5 ≤ status

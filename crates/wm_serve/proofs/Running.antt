@@ -8,7 +8,7 @@ use Rattle.wm_floor.specs.Floor.{Floored, IsSame, Seen}
 use Rattle.wm_floor.specs.Lists.{Extends, since}
 use Rattle.wm_floor.specs.declared.monitor_fault.MonitorFault.{MonitorFault}
 use Rattle.wm_floor.specs.MonitorCauses.{IsCaused}
-use Rattle.wm_floor.proofs.MonitorCausing.{IsCaused-since}
+use Rattle.wm_floor.proofs.MonitorCauses.{IsCaused-since}
 use Rattle.wm_serve.specs.Connections.{DeskServes, MakesCommands}
 use Rattle.wm_floor.specs.Attends.{MonitorAttends}
 use Rattle.wm_serve.specs.Seats.{IsLater, MonitorRuns, Runs, Sits, Tellers, WorkerRuns}

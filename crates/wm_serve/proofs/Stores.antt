@@ -15,34 +15,11 @@ use Rattle.wm_tables.specs.Restart.{IsBad}
 use Rattle.wm_floor.specs.Keeping.{IsLeft, Telling}
 use Rattle.wm_floor.proofs.Staying.{Stays-same}
 use Rattle.wm_run.specs.Kept.{HasBadRow, IsUnopened, store_status}
-use Rattle.wm_run.proofs.Openings.{Stays-then, stays_back, stays_if, trail_of_store}
+use Rattle.wm_run.proofs.Openings.{Stays-then, opened_of_store, stays_back, stays_if}
 use Rattle.wm_serve.specs.Server.{HasHistory, HasLog, IsServeStatus, OpensPlanned}
 
-history_of_store : (offset : ℤ) (status : ℕ) (log : List Entry) (old found closed new : Telling) (Done : State → List Entry → Type 0) → Stays old.tables found.tables → Stays old.trail found.trail → Stays closed.tables new.tables → Stays closed.trail new.trail → is_some new.trail ≡ is_some new.tables → HasHistory offset status log found closed Done → HasHistory offset status log old new Done
-history_of_store offset status log old found closed new Done tables trail tables' trail' both h =
-    let were : IfSome new.tables (λ _. found.tables ≡ Some h.rows) = stays_if (λ _. found.tables ≡ Some h.rows) closed.tables new.tables tables' h.found in
-    record {
-      opened = h.opened;
-      rows = h.rows;
-      found = if_told new.tables were;
-      restart = h.restart;
-      legal = h.legal;
-      limits = h.limits;
-      uses = h.uses;
-      order = h.order;
-      starts = h.starts;
-      idle = h.idle;
-      tables = stays_if _ closed.tables new.tables tables' h.tables;
-      trail = trail_of_store (record { opened = h.opened; log = log }) old found closed new h.rows were tables trail trail' both h.trail;
-      done = h.done;
-    }
-  where
-    if_told : (o : Option (List Row)) → IfSome o (λ _. found.tables ≡ Some h.rows) → IfSome o (λ _. old.tables ≡ Some h.rows)
-    if_told None k = tt
-    if_told (Some last) k = stays_back h.rows old.tables found.tables tables k
-
 pub log_of_store : (offset : ℤ) (status : ℕ) (log : Option (List Entry)) (old found closed new : Telling) (Done : State → List Entry → Type 0) → Stays old.tables found.tables → Stays old.trail found.trail → Stays closed.tables new.tables → Stays closed.trail new.trail → is_some new.trail ≡ is_some new.tables → HasLog offset status log found closed Done → HasLog offset status log old new Done
-log_of_store offset status (Some log) old found closed new Done tables trail tables' trail' both h = history_of_store offset status log old found closed new Done tables trail tables' trail' both h
+log_of_store offset status (Some log) old found closed new Done tables trail tables' trail' both h = opened_of_store offset log old found closed new tables trail tables' trail' both h
 log_of_store offset status None old found closed new Done tables trail tables' trail' both h = record { early = h.early; left = by h.left }
   where
     by : IsLeft found closed ⊎ ((status ≡ 6) × HasHistory offset status [] found closed (λ opened es. ⊤)) → IsLeft old new ⊎ ((status ≡ 6) × HasHistory offset status [] old new (λ opened es. ⊤))
@@ -51,7 +28,7 @@ log_of_store offset status None old found closed new Done tables trail tables' t
           tables = Stays-then old.tables found.tables new.tables tables (Stays-then found.tables closed.tables new.tables left.tables tables');
           trail = Stays-then old.trail found.trail new.trail trail (Stays-then found.trail closed.trail new.trail left.trail trail');
         })
-    by (inr (six, k)) = inr (six, history_of_store offset status [] old found closed new (λ opened es. ⊤) tables trail tables' trail' both k)
+    by (inr (six, k)) = inr (six, opened_of_store offset [] old found closed new tables trail tables' trail' both k)
 
 pub bad_row_of_store : (offset : ℤ) (old found closed new : Option (List Row)) → Stays old found → Stays closed new → HasBadRow offset found closed → HasBadRow offset old new
 bad_row_of_store offset old found closed new tables tables' h = go new (stays_if _ closed new tables' h)

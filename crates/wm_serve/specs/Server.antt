@@ -21,7 +21,7 @@ use Rattle.wm_plan.specs.Plans.{plan_of}
 use Rattle.wm_plan.specs.declared.plan.Plan.{Plan}
 use Rattle.wm_plan.specs.declared.plan.Plan.TheVariants.{Run, Serve, Drill}
 use Rattle.wm_plan.specs.declared.plan.ServePlan.{ServePlan}
-use Rattle.wm_run.specs.Kept.{IsUnopened}
+use Rattle.wm_run.specs.Kept.{HasOpened, IsUnopened}
 use Rattle.wm_serve.specs.Seats.{Tellers}
 use Rattle.wm_serve.specs.declared.halt.Halt.{Halt}
 use Rattle.wm_serve.specs.declared.halt.Halt.TheVariants.{WriteFault, KeeperFault, LogFull, WaitFault, ListenFault}
@@ -39,22 +39,14 @@ of_serve (Some (Drill plan)) = None
 abbrev pub serve_plan : List (List ℕ) → Option ServePlan
 serve_plan words = of_serve (plan_of words)
 
--- a server whose floor was opened: its history is one from a state of the rows that it found, where local time is so far ahead of UTC, and this was done
-pub record HasHistory (offset : ℤ) (status : ℕ) (log : List Entry) (old new : Telling) (Done : State → List Entry → Type 0) : Type 0 where
-  pub opened : State
-  pub rows : List Row
-  -- where the tables are told to the end, these are the rows that were told
-  pub found : IfSome new.tables (λ _. old.tables ≡ Some rows)
-  pub restart : IsRestart offset rows opened
-  pub legal : IsLegal opened log
-  pub limits : KeepsLimits opened log
-  pub uses : KeepsUses opened log
-  pub order : KeepsOrder opened log
-  pub starts : StartsOnce rows opened log
+-- what came of a server that opened with a state: this was done
+pub record HasServed (status : ℕ) (log : List Entry) (Done : State → List Entry → Type 0) (opened : State) : Type 0 where
   pub idle : status ≡ 0 → active (after opened log) ≡ 0
-  pub tables : HasTables (after opened log) new.tables
-  pub trail : HasTrail (record { opened = opened; log = log }) old new
   pub done : Done opened log
+
+-- a server whose floor was opened
+abbrev pub HasHistory : ℤ → ℕ → List Entry → Telling → Telling → (State → List Entry → Type 0) → Type 0
+HasHistory offset status log old new Done = HasOpened offset log old new (HasServed status log Done)
 
 -- the statuses of a server
 abbrev pub serve_statuses : List ℕ

@@ -13,7 +13,7 @@ use Rattle.wm_run.specs.Grown.{session_of}
 use Rattle.wm_run.specs.Kept.{IsUnopened}
 use Rattle.wm_run.specs.Run.{IsServed}
 use Rattle.wm_run.proofs.Callers.{callers, no_idle, served}
-use Rattle.wm_run.proofs.Openings.{floor_not_opened, open_early, open_high, open_low, open_unread, opened_run}
+use Rattle.wm_run.proofs.Openings.{floor_not_opened, open_early, open_high, open_low, open_unread, has_opened}
 use Rattle.wm_run.proofs.Outcomes.{came_not, came_run}
 use Rattle.wm_run.proofs.Runs.{ended_if}
 use Rattle.wm_run.proofs.kept_run.run_kept.Goals as goal
@@ -52,7 +52,7 @@ returns-in-Ok-clause-history g c =
     let trail = subst (λ (found : _). HasTrail (behind o log) (T found) (T c.close.result.1)) c.in-Ok.ensures.found (subst (λ (x : Opened _). HasTrail (behind x log) (T x.found) (T c.close.result.1)) same closed.trail) in
     let untold = subst (λ (x : Opened _). k.trail x.keeper ≡ None → k.trail c.close.result.1 ≡ None) same closed.untold in
     let quiet = no_idle a b log _ _ fresh c.in-Ok.ensures.ready c.serve-end.ensures.ready serves closed.whole in
-    inl (opened_run settings.offset ran.status log o (T c.args.keeper) (T o.keeper) (T c.close.result.1) c.in-Ok.ensures.ok legal quiet idle tables trail untold (g.met.K.Keeper.trail_with_tables c.args.keeper) (g.met.K.Keeper.trail_with_tables c.close.result.1) came)
+    inl (has_opened settings.offset log o (T c.args.keeper) (T o.keeper) (T c.close.result.1) c.in-Ok.ensures.ok legal tables trail untold (g.met.K.Keeper.trail_with_tables c.args.keeper) (g.met.K.Keeper.trail_with_tables c.close.result.1) (record { no_idle = quiet; idle = idle; input = came }))
 
 pub returns-in-Ok-clause-callers : goal.returns-in-Ok-clause-callers
 returns-in-Ok-clause-callers g c = callers c.in-Ok.run' c.serve-end.new.self c.close.result.0.log _ _ c.in-Ok.ensures.fresh c.in-Ok.ensures.ready c.serve-end.ensures.ready c.serve-end.ensures.serves c.close.ensures.whole

@@ -1,7 +1,7 @@
 use Rattle.std.proofs.Common.{arith}
 use Rattle.std.proofs.lemmas.Result.{err_from_is_err_and}
 use Rattle.wm_floor.proofs.Attending.{attends_by, attends_looked, attends_then}
-use Rattle.wm_floor.proofs.MonitorCausing.{caused}
+use Rattle.wm_floor.proofs.MonitorCauses.{caused}
 use Rattle.wm_serve.proofs.attendant.look_and_turn.Goals as goal
 
 pub returns-in_err-turned-clause-own : goal.returns-in_err-turned-clause-own

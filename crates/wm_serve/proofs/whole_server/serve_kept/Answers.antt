@@ -18,7 +18,7 @@ use Rattle.wm_serve.proofs.Accepted.{is_over}
 use Rattle.wm_serve.proofs.Closers.{fit_closer}
 use Rattle.wm_serve.proofs.Powers.{restart_is_on}
 use Rattle.wm_serve.proofs.Ended.{ended_begun, ended_by, ended_listed, ended_read, ended_well, ended_written}
-use Rattle.wm_serve.proofs.Histories.{open_begun, opened_server, unopened_server, written_none}
+use Rattle.wm_serve.proofs.Histories.{open_begun, unopened_server, written_none}
 use Rattle.wm_serve.proofs.whole_server.serve_kept.Goals as goal
 
 pub returns-in-Err-clause-log : goal.returns-in-Err-clause-log
@@ -74,7 +74,7 @@ returns-clause-log g c =
     let mine = ran.own.mine ∙ ap (λ (n : ℕ). own caller_of n seen) ran.zero in
     let all : AreServed t plan served.status o.state seen old new = record { floor = c.in-Ok.opened.0; opening = refl; seats = its; calls = subst (AreServerCalls plan.ctl) mine ran.calls; over = over } in
     let Done = λ (opened : State) (es : List Entry). AreServed t plan served.status opened es old new in
-    let whole = opened_server offset served.status seen o (T c.args.keeper) (T o.keeper) (T keeper) Done c.in-Ok.ensures.ok closed.legal idle closed.tables trail closed.untold (law.trail_with_tables c.args.keeper) (law.trail_with_tables keeper) all in
+    let whole = has_opened offset seen o (T c.args.keeper) (T o.keeper) (T keeper) c.in-Ok.ensures.ok closed.legal closed.tables trail closed.untold (law.trail_with_tables c.args.keeper) (law.trail_with_tables keeper) (record { idle = idle; done = all }) in
     subst (λ (log : Option (List Entry)). HasLog offset served.status log (T c.args.keeper) (T keeper) Done) (sym closed.log) whole
 
 pub returns-clause-written : goal.returns-clause-written

@@ -2,7 +2,7 @@ use Rattle.std.proofs.Common.{arith}
 use Rattle.std.proofs.lemmas.Result.{err_from_is_err_and}
 use Rattle.wm_floor.specs.Scene.{spawner_seen}
 use Rattle.wm_floor.proofs.Advances.{Advances-most}
-use Rattle.wm_floor.proofs.MonitorCausing.{caused}
+use Rattle.wm_floor.proofs.MonitorCauses.{caused}
 use Rattle.wm_floor.proofs.Loops.{HandLoop-next, HandLoop-none, hands_part}
 use Rattle.wm_floor.proofs.MonitorPasses.{GoesOn-looked}
 use Rattle.wm_floor.proofs.monitor.Monitor.hands.Goals as goal
@@ -67,8 +67,8 @@ returns-in_err-sent-clause-cause g c =
 
 pub returns-then-waiting-eq0-clause-part : goal.returns-then-waiting-eq0-clause-part
 returns-then-waiting-eq0-clause-part g c =
-    Advances-most c.args.floor.now c.hands.counter 0 256 0 c.args.pass.now c.hands.pass _ _ c.hands.invariant.0.part (omega arith) (omega arith)
+    Advances-most c.args.floor.now c.hands.counter 0 256 0 _ _ _ _ c.hands.invariant.0.part (omega arith) (omega arith)
 
 pub returns-clause-part : goal.returns-clause-part
 returns-clause-part g c =
-    Advances-most c.args.floor.now c.hands.counter 0 256 0 c.args.pass.now c.hands.pass _ _ c.hands.invariant.0.part (omega arith) (omega arith)
+    Advances-most c.args.floor.now c.hands.counter 0 256 0 _ _ _ _ c.hands.invariant.0.part (omega arith) (omega arith)

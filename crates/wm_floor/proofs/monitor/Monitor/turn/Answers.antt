@@ -5,7 +5,7 @@ use Rattle.wm_floor.specs.History.{reached}
 use Rattle.wm_floor.specs.Ledger.{behind}
 use Rattle.wm_floor.specs.Scene.{scene, spawner_seen}
 use Rattle.wm_floor.proofs.Advances.{Advances-most, Advances-then}
-use Rattle.wm_floor.proofs.MonitorCausing.{caused}
+use Rattle.wm_floor.proofs.MonitorCauses.{caused}
 use Rattle.wm_floor.proofs.Parts.{AsksFirst-since, count_then, kill_is_asked}
 use Rattle.wm_floor.proofs.MonitorPasses.{GoesOn-then}
 use Rattle.wm_floor.proofs.Turns.{had_nothing, handed_all, waited_before}
@@ -14,157 +14,96 @@ use Rattle.wm_floor.proofs.monitor.Monitor.turn.Goals as goal
 pub returns-in_err-settled-clause-part : goal.returns-in_err-settled-clause-part
 returns-in_err-settled-clause-part g c =
     let f = c.args.floor.now in
-    let p = c.args.pass.now in
-    let q = c.settle.new.pass in
-    Advances-most f 0 1 256 258 p q _ _ c.settle.ensures.part (omega arith) (omega arith)
+    Advances-most f 0 1 256 258 _ _ _ _ c.settle.ensures.part (omega arith) (omega arith)
 
 pub returns-in_err-ticked-clause-part : goal.returns-in_err-ticked-clause-part
 returns-in_err-ticked-clause-part g c =
     let s = g.P.Spawner in
     let see = spawner_seen s.asked s.told s.misses s.faults in
     let f = c.args.floor.now in
-    let p = c.args.pass.now in
-    let m = c.args.self.now in
-    let v = see c.args.spawner.now in
-    let q = c.settle.new.pass in
     let m1 = c.settle.new.self in
     let v1 = see c.settle.new.spawner in
     let settled = c.settle.ensures.part in
-    let r = c.tick.new.pass in
-    let ticked = Advances-then f 0 1 0 1 p q r (scene m v) (scene m1 v1) (scene m1 v1) settled (c.tick.ensures.part (scene m1 v1)) in
-    Advances-most f 0 2 256 258 p r _ _ ticked (omega arith) (omega arith)
+    let ticked = Advances-then f 0 1 0 1 _ _ _ _ _ _ settled (c.tick.ensures.part (scene m1 v1)) in
+    Advances-most f 0 2 256 258 _ _ _ _ ticked (omega arith) (omega arith)
 
 pub returns-in_err-handed-clause-part : goal.returns-in_err-handed-clause-part
 returns-in_err-handed-clause-part g c =
     let s = g.P.Spawner in
     let see = spawner_seen s.asked s.told s.misses s.faults in
     let f = c.args.floor.now in
-    let p = c.args.pass.now in
-    let m = c.args.self.now in
-    let v = see c.args.spawner.now in
-    let q = c.settle.new.pass in
     let m1 = c.settle.new.self in
     let v1 = see c.settle.new.spawner in
     let settled = c.settle.ensures.part in
-    let r = c.tick.new.pass in
-    let ticked = Advances-then f 0 1 0 1 p q r (scene m v) (scene m1 v1) (scene m1 v1) settled (c.tick.ensures.part (scene m1 v1)) in
-    let u = c.hands.new.pass in
-    let m2 = c.hands.new.self in
-    let v2 = see c.hands.new.spawner in
-    let handed = Advances-then f 0 2 256 0 p r u (scene m v) (scene m1 v1) (scene m2 v2) ticked c.hands.ensures.part in
-    Advances-most f 256 2 256 258 p u _ _ handed (omega arith) (omega arith)
+    let ticked = Advances-then f 0 1 0 1 _ _ _ _ _ _ settled (c.tick.ensures.part (scene m1 v1)) in
+    let handed = Advances-then f 0 2 256 0 _ _ _ _ _ _ ticked c.hands.ensures.part in
+    Advances-most f 256 2 256 258 _ _ _ _ handed (omega arith) (omega arith)
 
 pub returns-in_err-looked-clause-part : goal.returns-in_err-looked-clause-part
 returns-in_err-looked-clause-part g c =
     let s = g.P.Spawner in
     let see = spawner_seen s.asked s.told s.misses s.faults in
     let f = c.args.floor.now in
-    let p = c.args.pass.now in
-    let m = c.args.self.now in
-    let v = see c.args.spawner.now in
-    let q = c.settle.new.pass in
     let m1 = c.settle.new.self in
     let v1 = see c.settle.new.spawner in
     let settled = c.settle.ensures.part in
-    let r = c.tick.new.pass in
-    let ticked = Advances-then f 0 1 0 1 p q r (scene m v) (scene m1 v1) (scene m1 v1) settled (c.tick.ensures.part (scene m1 v1)) in
-    let u = c.hands.new.pass in
-    let m2 = c.hands.new.self in
-    let v2 = see c.hands.new.spawner in
-    let handed = Advances-then f 0 2 256 0 p r u (scene m v) (scene m1 v1) (scene m2 v2) ticked c.hands.ensures.part in
-    let t = c.looks.new.pass in
-    let m3 = c.looks.new.self in
-    let v3 = see c.looks.new.spawner in
-    Advances-then f 256 2 0 256 p u t (scene m v) (scene m2 v2) (scene m3 v3) handed c.looks.ensures.part
+    let ticked = Advances-then f 0 1 0 1 _ _ _ _ _ _ settled (c.tick.ensures.part (scene m1 v1)) in
+    let handed = Advances-then f 0 2 256 0 _ _ _ _ _ _ ticked c.hands.ensures.part in
+    Advances-then f 256 2 0 256 _ _ _ _ _ _ handed c.looks.ensures.part
 
 pub returns-clause-part : goal.returns-clause-part
 returns-clause-part g c =
     let s = g.P.Spawner in
     let see = spawner_seen s.asked s.told s.misses s.faults in
     let f = c.args.floor.now in
-    let p = c.args.pass.now in
-    let m = c.args.self.now in
-    let v = see c.args.spawner.now in
-    let q = c.settle.new.pass in
     let m1 = c.settle.new.self in
     let v1 = see c.settle.new.spawner in
     let settled = c.settle.ensures.part in
-    let r = c.tick.new.pass in
-    let ticked = Advances-then f 0 1 0 1 p q r (scene m v) (scene m1 v1) (scene m1 v1) settled (c.tick.ensures.part (scene m1 v1)) in
-    let u = c.hands.new.pass in
-    let m2 = c.hands.new.self in
-    let v2 = see c.hands.new.spawner in
-    let handed = Advances-then f 0 2 256 0 p r u (scene m v) (scene m1 v1) (scene m2 v2) ticked c.hands.ensures.part in
-    let t = c.looks.new.pass in
-    let m3 = c.looks.new.self in
-    let v3 = see c.looks.new.spawner in
-    Advances-then f 256 2 0 256 p u t (scene m v) (scene m2 v2) (scene m3 v3) handed c.looks.ensures.part
+    let ticked = Advances-then f 0 1 0 1 _ _ _ _ _ _ settled (c.tick.ensures.part (scene m1 v1)) in
+    let handed = Advances-then f 0 2 256 0 _ _ _ _ _ _ ticked c.hands.ensures.part in
+    Advances-then f 256 2 0 256 _ _ _ _ _ _ handed c.looks.ensures.part
 
 pub returns-clause-sent : goal.returns-clause-sent
 returns-clause-sent g c =
     let s = g.P.Spawner in
     let see = spawner_seen s.asked s.told s.misses s.faults in
     let f = c.args.floor.now in
-    let p = c.args.pass.now in
-    let m = c.args.self.now in
-    let v = see c.args.spawner.now in
-    let q = c.settle.new.pass in
     let m1 = c.settle.new.self in
     let v1 = see c.settle.new.spawner in
     let settled = c.settle.ensures.part in
-    let r = c.tick.new.pass in
-    let ticked = Advances-then f 0 1 0 1 p q r (scene m v) (scene m1 v1) (scene m1 v1) settled (c.tick.ensures.part (scene m1 v1)) in
-    let u = c.hands.new.pass in
-    let m2 = c.hands.new.self in
-    let v2 = see c.hands.new.spawner in
-    let handed = Advances-then f 0 2 256 0 p r u (scene m v) (scene m1 v1) (scene m2 v2) ticked c.hands.ensures.part in
-    let t = c.looks.new.pass in
+    let ticked = Advances-then f 0 1 0 1 _ _ _ _ _ _ settled (c.tick.ensures.part (scene m1 v1)) in
+    let handed = Advances-then f 0 2 256 0 _ _ _ _ _ _ ticked c.hands.ensures.part in
     let a = settled.pass in
     let b = (c.tick.ensures.part (scene m1 v1)).pass in
-    let first = count_then f p q r _ _ a b c.in_ok-settled.ensures.sent c.in_ok-ticked.ensures.sent in
-    let second = count_then f p r u _ _ ticked.pass c.hands.ensures.part.pass first c.in_ok-handed.ensures.sent in
-    count_then f p u t _ _ handed.pass c.looks.ensures.part.pass second c.in_ok-looked.ensures.sent
+    let first = count_then f _ _ _ _ _ a b c.in_ok-settled.ensures.sent c.in_ok-ticked.ensures.sent in
+    let second = count_then f _ _ _ _ _ ticked.pass c.hands.ensures.part.pass first c.in_ok-handed.ensures.sent in
+    count_then f _ _ _ _ _ handed.pass c.looks.ensures.part.pass second c.in_ok-looked.ensures.sent
 
 pub returns-clause-waited : goal.returns-clause-waited
 returns-clause-waited g c =
     let s = g.P.Spawner in
     let see = spawner_seen s.asked s.told s.misses s.faults in
     let f = c.args.floor.now in
-    let p = c.args.pass.now in
-    let m = c.args.self.now in
-    let v = see c.args.spawner.now in
-    let q = c.settle.new.pass in
     let m1 = c.settle.new.self in
     let v1 = see c.settle.new.spawner in
     let settled = c.settle.ensures.part in
-    let r = c.tick.new.pass in
-    let ticked = Advances-then f 0 1 0 1 p q r (scene m v) (scene m1 v1) (scene m1 v1) settled (c.tick.ensures.part (scene m1 v1)) in
+    let ticked = Advances-then f 0 1 0 1 _ _ _ _ _ _ settled (c.tick.ensures.part (scene m1 v1)) in
     let u = c.hands.new.pass in
-    let m2 = c.hands.new.self in
-    let v2 = see c.hands.new.spawner in
-    let handed = Advances-then f 0 2 256 0 p r u (scene m v) (scene m1 v1) (scene m2 v2) ticked c.hands.ensures.part in
-    let t = c.looks.new.pass in
+    let handed = Advances-then f 0 2 256 0 _ _ _ _ _ _ ticked c.hands.ensures.part in
     let o = c.in_ok-handed.handed in
     let waits = c.in_ok-handed.ensures.pending ∙ ap (pending (reached (behind f.opening u.seen))) ticked.pass.same.number in
-    waited_before f p u t o.at o.pending handed.pass c.looks.ensures.part.pass c.looks.ensures.part.within.hands_most c.in_ok-handed.ensures.at waits
+    waited_before f _ _ _ o.at o.pending handed.pass c.looks.ensures.part.pass c.looks.ensures.part.within.hands_most c.in_ok-handed.ensures.at waits
 
 pub returns-clause-handed : goal.returns-clause-handed
 returns-clause-handed g c =
     let s = g.P.Spawner in
     let see = spawner_seen s.asked s.told s.misses s.faults in
     let f = c.args.floor.now in
-    let p = c.args.pass.now in
-    let m = c.args.self.now in
-    let v = see c.args.spawner.now in
-    let q = c.settle.new.pass in
     let m1 = c.settle.new.self in
     let v1 = see c.settle.new.spawner in
     let settled = c.settle.ensures.part in
-    let r = c.tick.new.pass in
-    let ticked = Advances-then f 0 1 0 1 p q r (scene m v) (scene m1 v1) (scene m1 v1) settled (c.tick.ensures.part (scene m1 v1)) in
-    let u = c.hands.new.pass in
-    let t = c.looks.new.pass in
-    handed_all f p r u t _ ticked.pass c.hands.ensures.part.pass c.looks.ensures.part.pass ticked.within.hands_most c.looks.ensures.part.within.hands_most c.in_ok-handed.ensures.all
+    let ticked = Advances-then f 0 1 0 1 _ _ _ _ _ _ settled (c.tick.ensures.part (scene m1 v1)) in
+    handed_all f _ _ _ _ _ ticked.pass c.hands.ensures.part.pass c.looks.ensures.part.pass ticked.within.hands_most c.looks.ensures.part.within.hands_most c.in_ok-handed.ensures.all
 
 pub returns-clause-again : goal.returns-clause-again
 returns-clause-again g c =
@@ -173,19 +112,12 @@ returns-clause-again g c =
     let f = c.args.floor.now in
     let m = c.args.self.now in
     let v = see c.args.spawner.now in
-    let q = c.settle.new.pass in
     let m1 = c.settle.new.self in
     let v1 = see c.settle.new.spawner in
-    let r = c.tick.new.pass in
-    let u = c.hands.new.pass in
-    let m2 = c.hands.new.self in
-    let v2 = see c.hands.new.spawner in
-    let t = c.looks.new.pass in
-    let m3 = c.looks.new.self in
     let v3 = see c.looks.new.spawner in
     let hands = c.hands.ensures.part in
-    let early = Advances-then f 0 1 256 0 q r u (scene m1 v1) (scene m1 v1) (scene m2 v2) (c.tick.ensures.part (scene m1 v1)) hands in
-    let rest = Advances-then f 256 1 0 256 q u t (scene m1 v1) (scene m2 v2) (scene m3 v3) early c.looks.ensures.part in
+    let early = Advances-then f 0 1 256 0 _ _ _ _ _ _ (c.tick.ensures.part (scene m1 v1)) hands in
+    let rest = Advances-then f 256 1 0 256 _ _ _ _ _ _ early c.looks.ensures.part in
     AsksFirst-since m.failed_kill _ v.asked v1.asked v3.asked _ c.in_ok-settled.ensures.again rest.asked.asked
 
 pub returns-in_err-ticked-clause-kill : goal.returns-in_err-ticked-clause-kill
@@ -208,19 +140,12 @@ returns-in_err-looked-clause-kill g c =
     let f = c.args.floor.now in
     let m = c.args.self.now in
     let v = see c.args.spawner.now in
-    let q = c.settle.new.pass in
     let m1 = c.settle.new.self in
     let v1 = see c.settle.new.spawner in
-    let r = c.tick.new.pass in
-    let u = c.hands.new.pass in
-    let m2 = c.hands.new.self in
-    let v2 = see c.hands.new.spawner in
-    let t = c.looks.new.pass in
-    let m3 = c.looks.new.self in
     let v3 = see c.looks.new.spawner in
     let hands = c.hands.ensures.part in
-    let early = Advances-then f 0 1 256 0 q r u (scene m1 v1) (scene m1 v1) (scene m2 v2) (c.tick.ensures.part (scene m1 v1)) hands in
-    let rest = Advances-then f 256 1 0 256 q u t (scene m1 v1) (scene m2 v2) (scene m3 v3) early c.looks.ensures.part in
+    let early = Advances-then f 0 1 256 0 _ _ _ _ _ _ (c.tick.ensures.part (scene m1 v1)) hands in
+    let rest = Advances-then f 256 1 0 256 _ _ _ _ _ _ early c.looks.ensures.part in
     kill_is_asked m.failed_kill _ v.asked v3.asked (AsksFirst-since m.failed_kill _ v.asked v1.asked v3.asked _ c.in_ok-settled.ensures.again rest.asked.asked)
 
 pub returns-clause-kill : goal.returns-clause-kill
@@ -230,41 +155,29 @@ returns-clause-kill g c =
     let f = c.args.floor.now in
     let m = c.args.self.now in
     let v = see c.args.spawner.now in
-    let q = c.settle.new.pass in
     let m1 = c.settle.new.self in
     let v1 = see c.settle.new.spawner in
-    let r = c.tick.new.pass in
-    let u = c.hands.new.pass in
-    let m2 = c.hands.new.self in
-    let v2 = see c.hands.new.spawner in
-    let t = c.looks.new.pass in
-    let m3 = c.looks.new.self in
     let v3 = see c.looks.new.spawner in
     let hands = c.hands.ensures.part in
-    let early = Advances-then f 0 1 256 0 q r u (scene m1 v1) (scene m1 v1) (scene m2 v2) (c.tick.ensures.part (scene m1 v1)) hands in
-    let rest = Advances-then f 256 1 0 256 q u t (scene m1 v1) (scene m2 v2) (scene m3 v3) early c.looks.ensures.part in
+    let early = Advances-then f 0 1 256 0 _ _ _ _ _ _ (c.tick.ensures.part (scene m1 v1)) hands in
+    let rest = Advances-then f 256 1 0 256 _ _ _ _ _ _ early c.looks.ensures.part in
     kill_is_asked m.failed_kill _ v.asked v3.asked (AsksFirst-since m.failed_kill _ v.asked v1.asked v3.asked _ c.in_ok-settled.ensures.again rest.asked.asked)
 
 pub returns-clause-idle : goal.returns-clause-idle
 returns-clause-idle g c made no_kill =
     let s = g.P.Spawner in
-    let see = spawner_seen s.asked s.told s.misses s.faults in
     let f = c.args.floor.now in
     let p = c.args.pass.now in
     let m = c.args.self.now in
-    let v = see c.args.spawner.now in
     let q = c.settle.new.pass in
-    let m1 = c.settle.new.self in
-    let v1 = see c.settle.new.spawner in
     let settled = c.settle.ensures.part in
     let r = c.tick.new.pass in
-    let u = c.hands.new.pass in
     let t = c.looks.new.pass in
     let k = g.C.Clock in
     let w0 = c.in_ok-settled.ensures.sent in
     let w1 = c.in_ok-ticked.ensures.sent in
     let w2 = c.in_ok-handed.ensures.sent in
-    let later = GoesOn-then f r u t c.hands.ensures.part.pass c.looks.ensures.part.pass in
+    let later = GoesOn-then f _ _ _ c.hands.ensures.part.pass c.looks.ensures.part.pass in
     let same = c.in_ok-handed.ensures.quiet (omega arith) ∙ ap s.reporting (c.settle.ensures.quiet no_kill) in
     had_nothing f p q r t m.kept (k.coming c.args.clock.now) (k.coming c.settle.new.clock) (s.reporting c.args.spawner.now) (s.reporting c.hands.new.spawner) settled.pass later c.in_ok-settled.ensures.some (omega arith) (λ none. ap k.coming (c.settle.ensures.unread none)) (c.in_ok-ticked.ensures.due (omega arith)) same (c.in_ok-looked.ensures.all (omega arith))
 
@@ -286,15 +199,10 @@ returns-in_err-handed-clause-cause g c =
     let s = g.P.Spawner in
     let see = spawner_seen s.asked s.told s.misses s.faults in
     let f = c.args.floor.now in
-    let p = c.args.pass.now in
-    let m = c.args.self.now in
-    let v = see c.args.spawner.now in
-    let q = c.settle.new.pass in
     let m1 = c.settle.new.self in
     let v1 = see c.settle.new.spawner in
     let settled = c.settle.ensures.part in
-    let r = c.tick.new.pass in
-    let ticked = Advances-then f 0 1 0 1 p q r (scene m v) (scene m1 v1) (scene m1 v1) settled (c.tick.ensures.part (scene m1 v1)) in
+    let ticked = Advances-then f 0 1 0 1 _ _ _ _ _ _ settled (c.tick.ensures.part (scene m1 v1)) in
     let e = err_from_is_err_and c.from_residual-in_err-handed.result c.from_residual-in_err-handed.ensures.1 in
     caused c.from_residual-in_err-handed.result _ e.0 _ _ _ _ _ _ _ e.1 e.2 c.in_err-handed.ensures.cause ticked.faults ticked.pass.mark
 
@@ -303,19 +211,11 @@ returns-in_err-looked-clause-cause g c =
     let s = g.P.Spawner in
     let see = spawner_seen s.asked s.told s.misses s.faults in
     let f = c.args.floor.now in
-    let p = c.args.pass.now in
-    let m = c.args.self.now in
-    let v = see c.args.spawner.now in
-    let q = c.settle.new.pass in
     let m1 = c.settle.new.self in
     let v1 = see c.settle.new.spawner in
     let settled = c.settle.ensures.part in
-    let r = c.tick.new.pass in
-    let ticked = Advances-then f 0 1 0 1 p q r (scene m v) (scene m1 v1) (scene m1 v1) settled (c.tick.ensures.part (scene m1 v1)) in
-    let u = c.hands.new.pass in
-    let m2 = c.hands.new.self in
-    let v2 = see c.hands.new.spawner in
-    let handed = Advances-then f 0 2 256 0 p r u (scene m v) (scene m1 v1) (scene m2 v2) ticked c.hands.ensures.part in
+    let ticked = Advances-then f 0 1 0 1 _ _ _ _ _ _ settled (c.tick.ensures.part (scene m1 v1)) in
+    let handed = Advances-then f 0 2 256 0 _ _ _ _ _ _ ticked c.hands.ensures.part in
     let e = err_from_is_err_and c.from_residual-in_err-looked.result c.from_residual-in_err-looked.ensures.1 in
     caused c.from_residual-in_err-looked.result _ e.0 _ _ _ _ _ _ _ e.1 e.2 c.in_err-looked.ensures.cause handed.faults handed.pass.mark
 

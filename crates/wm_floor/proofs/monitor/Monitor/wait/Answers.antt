@@ -5,7 +5,7 @@ use Rattle.wm_floor.specs.History.{reached}
 use Rattle.wm_floor.specs.Ledger.{behind}
 use Rattle.wm_floor.specs.Scene.{scene, spawner_seen}
 use Rattle.wm_floor.proofs.Advances.{Advances-looked, Advances-most, Advances-then}
-use Rattle.wm_floor.proofs.MonitorCausing.{caused, caused_wait}
+use Rattle.wm_floor.proofs.MonitorCauses.{caused, caused_wait}
 use Rattle.wm_floor.proofs.Parts.{count_then, made_none, reported_part, unreported_part}
 use Rattle.wm_floor.proofs.MonitorPasses.{GoesOn-looked}
 use Rattle.wm_floor.proofs.Turns.{report_or_more, waited_now}
@@ -16,21 +16,15 @@ returns-in_err-first-clause-part g c =
     let s = g.P.Spawner in
     let see = spawner_seen s.asked s.told s.misses s.faults in
     let f = c.args.floor.now in
-    let p = c.args.pass.now in
-    let m = c.args.self.now in
     let v = see c.args.spawner.now in
-    let q = c.send_kept.new.pass in
-    let m1 = c.send_kept.new.self in
     let first = c.send_kept.ensures.part v in
-    Advances-most f 0 1 0 2 p q _ _ first (omega arith) (omega arith)
+    Advances-most f 0 1 0 2 _ _ _ _ first (omega arith) (omega arith)
 
 pub returns-in_err-report-clause-part : goal.returns-in_err-report-clause-part
 returns-in_err-report-clause-part g c =
     let s = g.P.Spawner in
     let see = spawner_seen s.asked s.told s.misses s.faults in
     let f = c.args.floor.now in
-    let p = c.args.pass.now in
-    let m = c.args.self.now in
     let v = see c.args.spawner.now in
     let q = c.send_kept.new.pass in
     let m1 = c.send_kept.new.self in
@@ -38,15 +32,13 @@ returns-in_err-report-clause-part g c =
     let x = see c.wait.new.spawner in
     let e = c.in_err-report.ensures in
     let second = unreported_part f 0 1 q m1 v x first.pass.own c.in_ok-first.ensures.kept e.asked e.told e.misses e.cause.later in
-    Advances-then f 0 1 0 1 p q q (scene m v) (scene m1 v) (scene m1 x) first second
+    Advances-then f 0 1 0 1 _ _ _ _ _ _ first second
 
 pub returns-in_err-second-clause-part : goal.returns-in_err-second-clause-part
 returns-in_err-second-clause-part g c =
     let s = g.P.Spawner in
     let see = spawner_seen s.asked s.told s.misses s.faults in
     let f = c.args.floor.now in
-    let p = c.args.pass.now in
-    let m = c.args.self.now in
     let v = see c.args.spawner.now in
     let q = c.send_kept.new.pass in
     let m1 = c.send_kept.new.self in
@@ -57,15 +49,13 @@ returns-in_err-second-clause-part g c =
     let e = c.in_ok-report.ensures in
     let k = record m1 { kept = c.in_ok-report.report } in
     let second = reported_part f q r m1 k n c.in_ok-report.report v x first.pass.own c.in_ok-first.ensures.kept refl refl e.asked e.told e.misses e.cause.later (c.send_kept-2.ensures.part x) in
-    Advances-then f 0 1 0 1 p q r (scene m v) (scene m1 v) (scene n x) first second
+    Advances-then f 0 1 0 1 _ _ _ _ _ _ first second
 
 pub returns-clause-part : goal.returns-clause-part
 returns-clause-part g c =
     let s = g.P.Spawner in
     let see = spawner_seen s.asked s.told s.misses s.faults in
     let f = c.args.floor.now in
-    let p = c.args.pass.now in
-    let m = c.args.self.now in
     let v = see c.args.spawner.now in
     let q = c.send_kept.new.pass in
     let m1 = c.send_kept.new.self in
@@ -76,11 +66,11 @@ returns-clause-part g c =
     let e = c.in_ok-report.ensures in
     let k = record m1 { kept = c.in_ok-report.report } in
     let second = reported_part f q r m1 k n c.in_ok-report.report v x first.pass.own c.in_ok-first.ensures.kept refl refl e.asked e.told e.misses e.cause.later (c.send_kept-2.ensures.part x) in
-    let whole = Advances-then f 0 1 0 1 p q r (scene m v) (scene m1 v) (scene n x) first second in
+    let whole = Advances-then f 0 1 0 1 _ _ _ _ _ _ first second in
     let t = c.pending-waiting.new.pass in
     let l = c.pending-waiting.ensures in
     let goes = GoesOn-looked f r t whole.pass.own l.own l.same l.looked in
-    Advances-then f 0 2 0 0 p r t (scene m v) (scene n x) (scene n x) whole (Advances-looked f 0 0 r t (scene n x) goes l.looked.mine)
+    Advances-then f 0 2 0 0 _ _ _ _ _ _ whole (Advances-looked f 0 0 r t (scene n x) goes l.looked.mine)
 
 pub returns-clause-report : goal.returns-clause-report
 returns-clause-report g c until =
@@ -88,7 +78,6 @@ returns-clause-report g c until =
     let see = spawner_seen s.asked s.told s.misses s.faults in
     let f = c.args.floor.now in
     let p = c.args.pass.now in
-    let m = c.args.self.now in
     let v = see c.args.spawner.now in
     let q = c.send_kept.new.pass in
     let m1 = c.send_kept.new.self in
@@ -99,7 +88,7 @@ returns-clause-report g c until =
     let e = c.in_ok-report.ensures in
     let k = record m1 { kept = c.in_ok-report.report } in
     let second = reported_part f q r m1 k n c.in_ok-report.report v x first.pass.own c.in_ok-first.ensures.kept refl refl e.asked e.told e.misses e.cause.later (c.send_kept-2.ensures.part x) in
-    let whole = Advances-then f 0 1 0 1 p q r (scene m v) (scene m1 v) (scene n x) first second in
+    let whole = Advances-then f 0 1 0 1 _ _ _ _ _ _ first second in
     let t = c.pending-waiting.new.pass in
     let l = c.pending-waiting.ensures in
     let goes = GoesOn-looked f r t whole.pass.own l.own l.same l.looked in
@@ -107,28 +96,7 @@ returns-clause-report g c until =
 
 pub returns-clause-sent : goal.returns-clause-sent
 returns-clause-sent g c =
-    let s = g.P.Spawner in
-    let see = spawner_seen s.asked s.told s.misses s.faults in
-    let f = c.args.floor.now in
-    let p = c.args.pass.now in
-    let m = c.args.self.now in
-    let v = see c.args.spawner.now in
-    let q = c.send_kept.new.pass in
     let m1 = c.send_kept.new.self in
-    let first = c.send_kept.ensures.part v in
-    let x = see c.wait.new.spawner in
-    let r = c.send_kept-2.new.pass in
-    let n = c.send_kept-2.new.self in
-    let e = c.in_ok-report.ensures in
-    let k = record m1 { kept = c.in_ok-report.report } in
-    let second = reported_part f q r m1 k n c.in_ok-report.report v x first.pass.own c.in_ok-first.ensures.kept refl refl e.asked e.told e.misses e.cause.later (c.send_kept-2.ensures.part x) in
-    let whole = Advances-then f 0 1 0 1 p q r (scene m v) (scene m1 v) (scene n x) first second in
-    let t = c.pending-waiting.new.pass in
-    let l = c.pending-waiting.ensures in
-    let goes = GoesOn-looked f r t whole.pass.own l.own l.same l.looked in
-    let both = count_then f p q r _ _ first.pass second.pass c.in_ok-first.ensures.sent c.in_ok-second.ensures.sent in
-    let last = count_then f p r t _ 0 whole.pass goes both (made_none f r t l.looked.mine) in
-    let is = c.of.ensures.sent in
     omega arith
 
 pub returns-clause-at : goal.returns-clause-at
@@ -142,7 +110,6 @@ returns-clause-waited g c =
     let see = spawner_seen s.asked s.told s.misses s.faults in
     let f = c.args.floor.now in
     let p = c.args.pass.now in
-    let m = c.args.self.now in
     let v = see c.args.spawner.now in
     let q = c.send_kept.new.pass in
     let m1 = c.send_kept.new.self in
@@ -153,11 +120,11 @@ returns-clause-waited g c =
     let e = c.in_ok-report.ensures in
     let k = record m1 { kept = c.in_ok-report.report } in
     let second = reported_part f q r m1 k n c.in_ok-report.report v x first.pass.own c.in_ok-first.ensures.kept refl refl e.asked e.told e.misses e.cause.later (c.send_kept-2.ensures.part x) in
-    let whole = Advances-then f 0 1 0 1 p q r (scene m v) (scene m1 v) (scene n x) first second in
+    let whole = Advances-then f 0 1 0 1 _ _ _ _ _ _ first second in
     let t = c.pending-waiting.new.pass in
     let l = c.pending-waiting.ensures in
     let goes = GoesOn-looked f r t whole.pass.own l.own l.same l.looked in
-    let all = Advances-then f 0 2 0 0 p r t (scene m v) (scene n x) (scene n x) whole (Advances-looked f 0 0 r t (scene n x) goes l.looked.mine) in
+    let all = Advances-then f 0 2 0 0 _ _ _ _ _ _ whole (Advances-looked f 0 0 r t (scene n x) goes l.looked.mine) in
     let o = c.of.result in
     let waits = c.of.ensures.pending ∙ (l.pending ∙ ap (pending (reached (behind f.opening t.seen))) (c.number-monitor.ensures.value ∙ whole.pass.same.number)) in
     waited_now f p t o.at o.pending all.pass (c.of.ensures.at ∙ l.at) waits
@@ -166,8 +133,6 @@ pub send_kept-requires-2 : goal.send_kept-requires-2
 send_kept-requires-2 g c =
     let s = g.P.Spawner in
     let see = spawner_seen s.asked s.told s.misses s.faults in
-    let p = c.args.pass.now in
-    let m = c.args.self.now in
     let v = see c.args.spawner.now in
     let first = c.send_kept.ensures.part v in
     record { own = first.pass.own }
@@ -177,8 +142,6 @@ pending-waiting-requires g c =
     let s = g.P.Spawner in
     let see = spawner_seen s.asked s.told s.misses s.faults in
     let f = c.args.floor.now in
-    let p = c.args.pass.now in
-    let m = c.args.self.now in
     let v = see c.args.spawner.now in
     let q = c.send_kept.new.pass in
     let m1 = c.send_kept.new.self in
@@ -196,8 +159,6 @@ overflow_add-first g c =
     let s = g.P.Spawner in
     let see = spawner_seen s.asked s.told s.misses s.faults in
     let f = c.args.floor.now in
-    let p = c.args.pass.now in
-    let m = c.args.self.now in
     let v = see c.args.spawner.now in
     let q = c.send_kept.new.pass in
     let m1 = c.send_kept.new.self in
@@ -235,8 +196,6 @@ pub returns-in_err-second-clause-cause : goal.returns-in_err-second-clause-cause
 returns-in_err-second-clause-cause g c =
     let s = g.P.Spawner in
     let see = spawner_seen s.asked s.told s.misses s.faults in
-    let p = c.args.pass.now in
-    let m = c.args.self.now in
     let v = see c.args.spawner.now in
     let first = c.send_kept.ensures.part v in
     let x = see c.wait.new.spawner in
