@@ -21,7 +21,7 @@ returns-in_ok-enter-in-Some-clause-part g c around =
     let r = c.waiting-waiting.new.pass in
     let e = c.waiting-waiting.ensures in
     let goes = GoesOn-looked f q r c.enter.ensures.part.own e.own e.same e.looked in
-    Advances-then f 0 1 0 0 _ _ _ _ _ _ (ticked_part f p q c.now-now.result _ around c.enter.ensures.part c.in_ok-enter-in-Some.ensures.ok) (Advances-looked f 0 0 q r around goes e.looked.mine)
+    Advances-then f 0 1 0 0 p q r around around around (ticked_part f p q c.now-now.result _ around c.enter.ensures.part c.in_ok-enter-in-Some.ensures.ok) (Advances-looked f 0 0 q r around goes e.looked.mine)
 
 pub returns-in_ok-enter-in-Some-clause-sent : goal.returns-in_ok-enter-in-Some-clause-sent
 returns-in_ok-enter-in-Some-clause-sent g c =
@@ -31,7 +31,7 @@ returns-in_ok-enter-in-Some-clause-sent g c =
     let r = c.waiting-waiting.new.pass in
     let e = c.waiting-waiting.ensures in
     let goes = GoesOn-looked f q r c.enter.ensures.part.own e.own e.same e.looked in
-    count_then f _ _ _ 1 0 c.enter.ensures.part goes (made_one f p q c.in_ok-enter-in-Some.ensures.ok) (made_none f q r e.looked.mine)
+    count_then f p q r 1 0 c.enter.ensures.part goes (made_one f p q c.in_ok-enter-in-Some.ensures.ok) (made_none f q r e.looked.mine)
 
 pub waiting-waiting-requires : goal.waiting-waiting-requires
 waiting-waiting-requires g c = record { own = c.enter.ensures.part.own }
@@ -57,7 +57,15 @@ pub returns-in_default-clause-moment : goal.returns-in_default-clause-moment
 returns-in_default-clause-moment g c = none_at c.args.floor.now c.args.pass.now c.args.pass.now (g.C.Clock.coming c.args.clock.now) refl
 
 pub returns-in_ok-enter-in-Some-clause-due : goal.returns-in_ok-enter-in-Some-clause-due
-returns-in_ok-enter-in-Some-clause-due g c none = absurd (omega arith)
+returns-in_ok-enter-in-Some-clause-due g c none =
+    let f = c.args.floor.now in
+    let p = c.args.pass.now in
+    let q = c.enter.new.pass in
+    let r = c.waiting-waiting.new.pass in
+    let e = c.waiting-waiting.ensures in
+    let goes = GoesOn-looked f q r c.enter.ensures.part.own e.own e.same e.looked in
+    let one = count_then f p q r 1 0 c.enter.ensures.part goes (made_one f p q c.in_ok-enter-in-Some.ensures.ok) (made_none f q r e.looked.mine) in
+    absurd (omega arith)
 
 pub returns-in_default-clause-due : goal.returns-in_default-clause-due
 returns-in_default-clause-due g c none =

@@ -28,7 +28,12 @@ returns-in_default-clause-part g c =
     quiet_part f 0 1 p m v w c.in_ok-report.field-0 c.in_default.is c.requires.own c.requires.clear.no_report e.asked e.told e.misses e.cause.later
 
 pub returns-clause-sent : goal.returns-clause-sent
-returns-clause-sent g c ok = omega arith
+returns-clause-sent g c ok =
+    let within = (c.send_kept.ensures.part (spawner_seen g.P.Spawner.asked g.P.Spawner.told g.P.Spawner.misses g.P.Spawner.faults c.look.new.spawner)).within in
+    let hands = within.hands_most in
+    let most = within.others_most in
+    let some = c.in_ok-send_kept.ensures.some in
+    omega arith
 
 pub returns-in_err-send_kept-clause-part : goal.returns-in_err-send_kept-clause-part
 returns-in_err-send_kept-clause-part g c =

@@ -49,10 +49,20 @@ returns-clause-part g c =
     let e = c.waiting_since-waiting.ensures in
     let tried = tried_part f p q m c.send_kept.new.self n v w (c.send_kept.ensures.part v) c.retry.ensures.asked c.retry.ensures.reported c.retry.ensures.faults in
     let goes = GoesOn-looked f q r tried.pass.own e.own e.same e.looked in
-    Advances-then f 0 1 0 0 _ _ _ _ _ _ tried (Advances-looked f 0 0 q r (scene n w) goes e.looked.mine)
+    Advances-then f 0 1 0 0 p q r (scene m v) (scene n w) (scene n w) tried (Advances-looked f 0 0 q r (scene n w) goes e.looked.mine)
 
 pub returns-clause-sent : goal.returns-clause-sent
-returns-clause-sent g c = omega arith
+returns-clause-sent g c =
+    let s = g.P.Spawner in
+    let see = spawner_seen s.asked s.told s.misses s.faults in
+    let f = c.args.floor.now in
+    let p = c.args.pass.now in
+    let q = c.send_kept.new.pass in
+    let r = c.waiting_since-waiting.new.pass in
+    let e = c.waiting_since-waiting.ensures in
+    let part = (c.send_kept.ensures.part (see c.args.spawner.now)).pass in
+    let both = count_then f p q r _ 0 part (GoesOn-looked f q r part.own e.own e.same e.looked) c.in_ok-reported.ensures.sent (made_none f q r e.looked.mine) in
+    omega arith
 
 pub returns-clause-some : goal.returns-clause-some
 returns-clause-some g c =
@@ -67,7 +77,8 @@ returns-clause-some g c =
     some_then f p q r c.args.self.now.kept part (GoesOn-looked f q r part.own e.own e.same e.looked) c.in_ok-reported.ensures.some
 
 pub returns-in_err-reported-clause-kill : goal.returns-in_err-reported-clause-kill
-returns-in_err-reported-clause-kill g c = kill_is_kept _ _ _ _ c.send_kept.ensures.kill
+returns-in_err-reported-clause-kill g c =
+    kill_is_kept _ _ _ _ c.send_kept.ensures.kill
 
 pub returns-in_err-retry-clause-kill : goal.returns-in_err-retry-clause-kill
 returns-in_err-retry-clause-kill g c =

@@ -96,7 +96,26 @@ returns-clause-report g c until =
 
 pub returns-clause-sent : goal.returns-clause-sent
 returns-clause-sent g c =
+    let s = g.P.Spawner in
+    let see = spawner_seen s.asked s.told s.misses s.faults in
+    let f = c.args.floor.now in
+    let v = see c.args.spawner.now in
+    let q = c.send_kept.new.pass in
     let m1 = c.send_kept.new.self in
+    let first = c.send_kept.ensures.part v in
+    let x = see c.wait.new.spawner in
+    let r = c.send_kept-2.new.pass in
+    let n = c.send_kept-2.new.self in
+    let e = c.in_ok-report.ensures in
+    let k = record m1 { kept = c.in_ok-report.report } in
+    let second = reported_part f q r m1 k n c.in_ok-report.report v x first.pass.own c.in_ok-first.ensures.kept refl refl e.asked e.told e.misses e.cause.later (c.send_kept-2.ensures.part x) in
+    let whole = Advances-then f 0 1 0 1 _ _ _ _ _ _ first second in
+    let t = c.pending-waiting.new.pass in
+    let l = c.pending-waiting.ensures in
+    let goes = GoesOn-looked f r t whole.pass.own l.own l.same l.looked in
+    let both = count_then f _ _ _ _ _ first.pass second.pass c.in_ok-first.ensures.sent c.in_ok-second.ensures.sent in
+    let last = count_then f _ _ _ _ 0 whole.pass goes both (made_none f r t l.looked.mine) in
+    let is = c.of.ensures.sent in
     omega arith
 
 pub returns-clause-at : goal.returns-clause-at
