@@ -7,8 +7,7 @@ set -eu
 cd "$(dirname "$0")/.."
 jobs=${1:-2000}
 rounds=${2:-5}
-# WRKMGR names another program to measure.
-if [ -n "${WRKMGR:-}" ]; then program=$(realpath "$WRKMGR"); else . bench/program.sh; fi
+. bench/program.sh
 folder=$(mktemp -d)
 trap 'rm -rf "$folder"' EXIT
 cd "$folder"

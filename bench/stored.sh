@@ -5,10 +5,10 @@
 # releases or holds one of the jobs, and one with 400,000 lines more. Each figure is the difference of a run and the one
 # before it: of the opening, of the first steps, which also pay for the memory that the opening gave back, as the C library
 # joins it when it is used again, and of the steps behind these. Of each run it is the least of five, all of them by turns.
-# The keeper is the one in memory, whose own part doesn't grow with the rows.
+# The keeper is the one in memory, whose own part doesn't grow with the rows. TESTED names another such program to measure.
 set -eu
 cd "$(dirname "$0")/.."
-program=$PWD/crates/wm_test_history/out/wm_test_history
+program=$(realpath "${TESTED:-crates/wm_test_history/out/wm_test_history}")
 if [ ! -x "$program" ]; then
   (cd crates/wm_test_history && rt run >/dev/null)
 fi
