@@ -10,8 +10,7 @@ cd "$(dirname "$0")/.."
 root=$PWD
 rounds=${1:-5}
 seconds=${2:-2}
-# WRKMGR names another program to measure.
-if [ -n "${WRKMGR:-}" ]; then program=$(realpath "$WRKMGR"); else . bench/program.sh; fi
+. bench/program.sh
 folder=$(mktemp -d)
 server=
 trap 'kill $server 2>/dev/null; rm -rf "$folder"' EXIT
