@@ -7,14 +7,13 @@ use Rattle.wm_floor.specs.Keeping.{Telling}
 use Rattle.wm_law.specs.declared.call.Entry.{Entry}
 use Rattle.wm_law.specs.declared.state.State.{State}
 use Rattle.wm_law.specs.Kept.{IsDistinct, starts}
-use Rattle.wm_law.specs.Laws.{IsIn}
 use Rattle.wm_run.specs.declared.whole_run.Ran.{Ran}
 use Rattle.wm_run.specs.Kept.{HasHistory}
 use Rattle.wm_run.specs.Laws.{RunsMakeChains}
 use Rattle.wm_run.specs.Words.{settings_of}
 use Rattle.wm_traits.specs.Told.{Stays}
 use Rattle.wm_traits.specs.declared.row.Row.{Row}
-use Rattle.wm_runs.specs.Chained.{AreChained, HasChain, last_left, started}
+use Rattle.wm_runs.specs.Chained.{AreChained, HasChain, started}
 use Rattle.wm_runs.specs.Turns.{AreInOrder, AreRuns, IsOneRun, Seen, Turn}
 
 -- what holds where something is told holds of what is told

@@ -1,5 +1,5 @@
 -- The counts of the output and of the store never fall.
-use Rattle.std.proofs.Common.{◌≡◌, ℕ, ◌≤◌, List, [], ◌∷◌, sym, ap, subst, arith}
+use Rattle.std.proofs.Common.{◌≡◌, ℕ, ◌≤◌, List, [], ◌∷◌, ap, subst, arith}
 use Rattle.wm_runs.specs.Turns.{AreInOrder, AreRuns, Seen, Turn}
 use Rattle.wm_run.specs.declared.whole_run.Ran.{Ran}
 

@@ -1,32 +1,17 @@
 -- The history of a server from the rows that it found.
-use Rattle.std.proofs.Common.{◌≡◌, ◌⊎◌, ◌≤◌, ℕ, ℤ, true, List, [], Option, Some, None, IfSome, is_some, refl, sym, ap, subst, ◌∙◌, inl, inr, arith}
+use Rattle.std.proofs.Common.{◌≡◌, ◌⊎◌, ◌≤◌, ℕ, ℤ, List, [], Option, Some, None, IfSome, is_some, refl, sym, ap, subst, ◌∙◌, inl, inr, arith}
 use Rattle.std.specs.Prelude.{⊤}
 use Rattle.wm_traits.specs.Told.{Stays}
 use Rattle.wm_traits.proofs.Telling.{Grows-none}
 use Rattle.wm_traits.specs.declared.row.Row.{Row}
-use Rattle.wm_law.specs.History.{IsLegal}
-use Rattle.wm_law.specs.declared.state.State.{State}
-use Rattle.wm_law.specs.Pending.{active}
-use Rattle.wm_law.specs.declared.call.Entry.{Entry}
-use Rattle.wm_law.proofs.Maxuse.{uses_are_kept}
-use Rattle.wm_law.proofs.Sound.{limits_are_kept, order_is_kept}
-use Rattle.wm_tables.proofs.Starting.{runs_start_once}
 use Rattle.wm_tables.specs.Restart.{IsBad}
-use Rattle.wm_tables.proofs.PrestartRestarts.{restart_is_prestart_sound, restart_is_within_maxuse}
-use Rattle.wm_tables.proofs.Restarts.{restart_is_sound}
-use Rattle.wm_floor.specs.History.{reached}
-use Rattle.wm_floor.specs.Keeping.{IsLeft, IsOpened, Telling}
+use Rattle.wm_floor.specs.Keeping.{IsLeft, Telling}
 use Rattle.wm_floor.specs.OpenFaults.{NamesBad}
-use Rattle.wm_floor.specs.Stored.{HasTables}
-use Rattle.wm_floor.specs.Trail.{HasTrail}
 use Rattle.wm_floor.specs.declared.open_fault.OpenFault.{OpenFault}
 use Rattle.wm_floor.specs.declared.open_fault.OpenFault.TheVariants.{KeeperFault, BadRow, NoMemory}
-use Rattle.wm_floor.proofs.Trails.{trail_opened}
 use Rattle.wm_run.specs.Kept.{HasBadRow, IsUnopened, open_status}
-use Rattle.wm_run.proofs.Openings.{open_early, rows_found}
+use Rattle.wm_run.proofs.Openings.{open_early}
 use Rattle.wm_floor.specs.Floor.{IsLeftOrOpened}
-use Rattle.wm_floor.specs.Ledger.{behind}
-use Rattle.wm_floor.specs.declared.opened.Opened.{Opened}
 use Rattle.wm_serve.specs.Ending.{HasWritten}
 use Rattle.wm_serve.specs.Server.{HasHistory, HasNone, IsServeStatus}
 

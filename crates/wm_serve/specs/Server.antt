@@ -1,21 +1,13 @@
 -- What a whole server makes of the rows that it finds, and leaves of them.
-use Rattle.std.specs.Prelude.{◌≡◌, ◌⊎◌, ℕ, ℤ, ◌+◌, ◌≤◌, ◌==◌, ◌&&◌, Bool, true, false, List, [], ◌∷◌, drop, length, pos, take, ⊤, Option, Some, None, IfSome, nat_eq}
+use Rattle.std.specs.Prelude.{◌≡◌, ◌⊎◌, ℕ, ℤ, ◌+◌, ◌≤◌, ◌==◌, ◌&&◌, Bool, true, false, List, [], ◌∷◌, drop, length, pos, take, ⊤, Option, Some, None, nat_eq}
 use Rattle.std.specs.List.{list_all, list_any}
 use Rattle.wm_traits.specs.Cause.{raised}
 use Rattle.wm_traits.specs.Told.{Grows, Stays}
-use Rattle.wm_traits.specs.declared.row.Row.{Row}
-use Rattle.wm_law.specs.History.{after, IsLegal}
-use Rattle.wm_law.specs.Limits.{KeepsLimits}
-use Rattle.wm_law.specs.Maxuse.{KeepsUses}
-use Rattle.wm_law.specs.Order.{KeepsOrder}
+use Rattle.wm_law.specs.History.{after}
 use Rattle.wm_law.specs.Pending.{active}
 use Rattle.wm_law.specs.declared.call.Entry.{Entry}
 use Rattle.wm_law.specs.declared.state.State.{State}
-use Rattle.wm_tables.specs.Starts.{StartsOnce}
-use Rattle.wm_tables.specs.Restart.{IsRestart}
 use Rattle.wm_floor.specs.Keeping.{IsLeft, Telling}
-use Rattle.wm_floor.specs.Stored.{HasTables}
-use Rattle.wm_floor.specs.Trail.{HasTrail}
 use Rattle.wm_floor.specs.Floor.{Seen}
 use Rattle.wm_plan.specs.Plans.{plan_of}
 use Rattle.wm_plan.specs.declared.plan.Plan.{Plan}
