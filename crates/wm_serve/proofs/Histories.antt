@@ -10,7 +10,7 @@ use Rattle.wm_floor.specs.OpenFaults.{NamesBad}
 use Rattle.wm_floor.specs.declared.open_fault.OpenFault.{OpenFault}
 use Rattle.wm_floor.specs.declared.open_fault.OpenFault.TheVariants.{KeeperFault, BadRow, NoMemory}
 use Rattle.wm_run.specs.Kept.{HasBadRow, IsUnopened, open_status}
-use Rattle.wm_run.proofs.Openings.{open_early}
+use Rattle.wm_run.proofs.Openings.{open_early, opened_none}
 use Rattle.wm_floor.specs.Floor.{IsLeftOrOpened}
 use Rattle.wm_serve.specs.Ending.{HasWritten}
 use Rattle.wm_serve.specs.Server.{HasHistory, HasNone, IsServeStatus}

@@ -9,6 +9,7 @@ use Rattle.wm_floor.specs.Keeping.{telling}
 use Rattle.wm_floor.specs.Trail.{HasTrail}
 use Rattle.wm_floor.specs.Ledger.{behind, caller_of}
 use Rattle.wm_turn.specs.Passed.{own}
+use Rattle.wm_run.proofs.Openings.{has_opened}
 use Rattle.wm_serve.specs.Seats.{takes_pass, tellers}
 use Rattle.wm_serve.specs.Done.{AreServed}
 use Rattle.wm_serve.specs.Over.{AreServerCalls, DryRose, Finishes, IsOver}
