@@ -91,17 +91,17 @@ calm_calls s call none other = record {
   nothing = λ n. calm s;
   notes = calm s;
   hands = λ m j o i k f. record { evokes = refl; started = λ b i. inl i };
-  reports = λ serial j phase stopped i k r n. record { evokes = refl; started = λ b i. inl i };
+  reports = λ serial j phase stopped i k r n fit. record { evokes = refl; started = λ b i. inl i };
   starts = λ q can. calm_with s q (with_autos s q) (object_named q (with_autos s q).objects.sbsds) (calm_begun s q can);
-  enters = λ user c d due has. record { evokes = refl; started = λ b i. inl i };
-  alters = λ reply change place p a. record { evokes = refl; started = λ b i. inl i };
-  holds = λ reply held p a told. record { evokes = refl; started = λ b i. inl i };
+  enters = λ user c d due has fit. record { evokes = refl; started = λ b i. inl i };
+  alters = λ reply change place p a fit. record { evokes = refl; started = λ b i. inl i };
+  holds = λ reply held p a told fit. record { evokes = refl; started = λ b i. inl i };
   ends = λ reply change started stopped evokes power p e told. absurd (true≢false (sym told ∙ none));
   uses = λ reply change p u. record { evokes = refl; started = λ b i. inl i };
   waits = λ place evokes is. absurd (other is);
   prestarts = λ q d e can. calm_made s q e.pgm (room (restarted s q e.pgm) q d e (e.inljobs - count_available q e.pgm s.jobs)) (restarted s q e.pgm) (record { evokes = refl; started = λ b i. inl i });
   kills = λ m j i k. record { evokes = refl; started = λ b i. inl i };
-  makes = λ o c told. record { evokes = refl; started = λ b i. inl i };
+  makes = λ o c told fit. record { evokes = refl; started = λ b i. inl i };
 }
 
 -- what a call does to the requests of each entry, and that none comes to wait at an ending subsystem
@@ -430,17 +430,17 @@ answered_so s call = record {
   nothing = λ n place e. absurd (cc);
   notes = λ place e. absurd (cc);
   hands = λ m j o i k f place e. absurd (cc);
-  reports = λ serial j phase stopped i k r n place e. absurd (cc);
+  reports = λ serial j phase stopped i k r n fit place e. absurd (cc);
   starts = λ q can place e. absurd (cc);
-  enters = λ user c d due has place e. absurd (cc);
-  alters = λ reply change at p a place e. absurd (p.waits_not place e);
-  holds = λ reply held p a told place e. absurd (p.waits_not place e);
+  enters = λ user c d due has fit place e. absurd (cc);
+  alters = λ reply change at p a fit place e. absurd (p.waits_not place e);
+  holds = λ reply held p a told fit place e. absurd (p.waits_not place e);
   ends = λ reply change started stopped evokes power p a told place e. absurd (p.waits_not place e);
   uses = λ reply change p u place e. absurd (p.waits_not place e);
   waits = λ at evokes is place e. is;
   prestarts = λ q d e can place is. absurd (cc);
   kills = λ m j i k place e. absurd (cc);
-  makes = λ o c told place e. absurd (cc);
+  makes = λ o c told fit place e. absurd (cc);
 }
 
 pub answered_requests_wait : AnsweredRequestsWait

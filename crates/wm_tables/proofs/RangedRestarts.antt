@@ -23,7 +23,7 @@ use Rattle.wm_law.specs.declared.state.State.{State}
 use Rattle.wm_law.proofs.InOrder.{in_inserted}
 use Rattle.wm_law.proofs.Objects.{class_made, queue_made, program_made, job_description_made, description_made, queue_added, route_added, auto_added, pre_added}
 use Rattle.wm_law.proofs.Opened.{batch_sbsd, commands_fit, opened, opening_is, opening_objects}
-use Rattle.wm_rows.specs.Again.{crtcls_of, crtpgmref_of, crtjobq_of, crtjobd_of, crtsbsd_of, addjobqe_of, addrtge_of}
+use Rattle.wm_law.specs.Again.{crtcls_of, crtpgmref_of, crtjobq_of, crtjobd_of, crtsbsd_of, addjobqe_of, addrtge_of}
 use Rattle.wm_rows.specs.Rows.{command_row}
 use Rattle.wm_rows.specs.declared.stored.Counter.{Counter}
 use Rattle.wm_rows.specs.declared.stored.Counter.TheVariants as counter
