@@ -97,7 +97,7 @@ use Rattle.wm_law.specs.Prestarting.{end_entry, end_entry_in, end_entry_with, pr
 use Rattle.wm_law.specs.Sound.{IsUpToDate, CameByEntry}
 use Rattle.wm_law.specs.Uses.{done_with, end_use_found, evoke_entry, evoke_in, evoke_on, evoke_with, max_evokes, maxuse_by, use_done_on}
 use Rattle.wm_law.proofs.InOrder.{in_inserted}
-use Rattle.wm_law.proofs.RangedMoments.{again_within, due_within}
+use Rattle.wm_law.proofs.RangedMoments.{again_within}
 use Rattle.wm_law.proofs.RangedObjects.{class_range, program_range, queue_range, jobd_range, sbsd_range, queue_entry_range, route_entry_range, auto_entry_range, pre_entry_range, without_queue_range, without_route_range, without_auto_range, without_pre_range}
 use Rattle.wm_law.proofs.Rounds.{room-is}
 use Rattle.wm_law.proofs.UsesUp.{used_up, done_at}
