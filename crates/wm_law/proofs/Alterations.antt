@@ -11,7 +11,7 @@ use Rattle.wm_base.specs.declared.refusal.Refusal.{Refusal}
 use Rattle.wm_desc.specs.Sorted.{added, removed}
 use Rattle.wm_desc.specs.Table.{object_named, qname_cmp, same_qname}
 use Rattle.wm_law.specs.declared.call.Reply.{Reply}
-use Rattle.wm_law.specs.declared.call.Reply.TheVariants.{Changed, Held, JobEnded, JobEnding, No, Nothing, PowerDown, QueueCleared, QueueHeld, QueueReleased, Released, SbsEnding, PreEnding, Evoked, UseEnded, Noted, EvokeWaits}
+use Rattle.wm_law.specs.declared.call.Reply.TheVariants.{Changed, Held, JobEnded, JobEnding, Made, No, Nothing, PowerDown, QueueCleared, QueueHeld, QueueReleased, Released, SbsEnding, PreEnding, Evoked, UseEnded, Noted, EvokeWaits}
 use Rattle.wm_law.specs.declared.command.Chgjob.{Chgjob}
 use Rattle.wm_law.specs.declared.job.Job.{Job}
 use Rattle.wm_law.specs.declared.job.Phase.{Phase}
@@ -33,54 +33,55 @@ use Rattle.wm_law.specs.Ranges.{IsCause}
 use Rattle.wm_law.specs.Wishes.{greatest_moment}
 use Rattle.wm_law.proofs.Members.{of_mapped}
 
--- a reply that orders nothing, refuses nothing, and says something
+-- a reply that orders nothing, refuses nothing, makes no object, and says something
 pub record IsPlain (reply : Reply) : Type 0 where
   pub orders_none : order_in reply ≡ None
   pub refuses_none : (x : Refusal) → reply ≡ No x → ⊥
   pub says : reply ≡ Nothing → ⊥
   pub waits_not : (place : ℕ) → reply ≡ EvokeWaits place → ⊥
+  pub makes_none : reply ≡ Made → ⊥
 
 pub plain_held : (job : JobName) → IsPlain (Held job)
-plain_held job = record { orders_none = refl; refuses_none = λ x e. absurd (cc); says = λ e. absurd (cc); waits_not = λ place e. absurd (cc) }
+plain_held job = record { orders_none = refl; refuses_none = λ x e. absurd (cc); says = λ e. absurd (cc); waits_not = λ place e. absurd (cc); makes_none = λ e. absurd (cc) }
 
 pub plain_released : (job : JobName) → IsPlain (Released job)
-plain_released job = record { orders_none = refl; refuses_none = λ x e. absurd (cc); says = λ e. absurd (cc); waits_not = λ place e. absurd (cc) }
+plain_released job = record { orders_none = refl; refuses_none = λ x e. absurd (cc); says = λ e. absurd (cc); waits_not = λ place e. absurd (cc); makes_none = λ e. absurd (cc) }
 
 pub plain_changed : (job : JobName) → IsPlain (Changed job)
-plain_changed job = record { orders_none = refl; refuses_none = λ x e. absurd (cc); says = λ e. absurd (cc); waits_not = λ place e. absurd (cc) }
+plain_changed job = record { orders_none = refl; refuses_none = λ x e. absurd (cc); says = λ e. absurd (cc); waits_not = λ place e. absurd (cc); makes_none = λ e. absurd (cc) }
 
 pub plain_queue_held : IsPlain QueueHeld
-plain_queue_held = record { orders_none = refl; refuses_none = λ x e. absurd (cc); says = λ e. absurd (cc); waits_not = λ place e. absurd (cc) }
+plain_queue_held = record { orders_none = refl; refuses_none = λ x e. absurd (cc); says = λ e. absurd (cc); waits_not = λ place e. absurd (cc); makes_none = λ e. absurd (cc) }
 
 pub plain_queue_released : IsPlain QueueReleased
-plain_queue_released = record { orders_none = refl; refuses_none = λ x e. absurd (cc); says = λ e. absurd (cc); waits_not = λ place e. absurd (cc) }
+plain_queue_released = record { orders_none = refl; refuses_none = λ x e. absurd (cc); says = λ e. absurd (cc); waits_not = λ place e. absurd (cc); makes_none = λ e. absurd (cc) }
 
 pub plain_cleared : (count : ℕ) → IsPlain (QueueCleared count)
-plain_cleared count = record { orders_none = refl; refuses_none = λ x e. absurd (cc); says = λ e. absurd (cc); waits_not = λ place e. absurd (cc) }
+plain_cleared count = record { orders_none = refl; refuses_none = λ x e. absurd (cc); says = λ e. absurd (cc); waits_not = λ place e. absurd (cc); makes_none = λ e. absurd (cc) }
 
 pub plain_job_ending : (job : JobName) → IsPlain (JobEnding job)
-plain_job_ending job = record { orders_none = refl; refuses_none = λ x e. absurd (cc); says = λ e. absurd (cc); waits_not = λ place e. absurd (cc) }
+plain_job_ending job = record { orders_none = refl; refuses_none = λ x e. absurd (cc); says = λ e. absurd (cc); waits_not = λ place e. absurd (cc); makes_none = λ e. absurd (cc) }
 
 pub plain_job_ended : (job : JobName) → IsPlain (JobEnded job)
-plain_job_ended job = record { orders_none = refl; refuses_none = λ x e. absurd (cc); says = λ e. absurd (cc); waits_not = λ place e. absurd (cc) }
+plain_job_ended job = record { orders_none = refl; refuses_none = λ x e. absurd (cc); says = λ e. absurd (cc); waits_not = λ place e. absurd (cc); makes_none = λ e. absurd (cc) }
 
 pub plain_sbs_ending : (sbs : QName) → IsPlain (SbsEnding sbs)
-plain_sbs_ending sbs = record { orders_none = refl; refuses_none = λ x e. absurd (cc); says = λ e. absurd (cc); waits_not = λ place e. absurd (cc) }
+plain_sbs_ending sbs = record { orders_none = refl; refuses_none = λ x e. absurd (cc); says = λ e. absurd (cc); waits_not = λ place e. absurd (cc); makes_none = λ e. absurd (cc) }
 
 pub plain_power_down : IsPlain PowerDown
-plain_power_down = record { orders_none = refl; refuses_none = λ x e. absurd (cc); says = λ e. absurd (cc); waits_not = λ place e. absurd (cc) }
+plain_power_down = record { orders_none = refl; refuses_none = λ x e. absurd (cc); says = λ e. absurd (cc); waits_not = λ place e. absurd (cc); makes_none = λ e. absurd (cc) }
 
 pub plain_pre_ending : IsPlain PreEnding
-plain_pre_ending = record { orders_none = refl; refuses_none = λ x e. absurd (cc); says = λ e. absurd (cc); waits_not = λ place e. absurd (cc) }
+plain_pre_ending = record { orders_none = refl; refuses_none = λ x e. absurd (cc); says = λ e. absurd (cc); waits_not = λ place e. absurd (cc); makes_none = λ e. absurd (cc) }
 
 pub plain_evoked : (job : JobName) → IsPlain (Evoked job)
-plain_evoked job = record { orders_none = refl; refuses_none = λ x e. absurd (cc); says = λ e. absurd (cc); waits_not = λ place e. absurd (cc) }
+plain_evoked job = record { orders_none = refl; refuses_none = λ x e. absurd (cc); says = λ e. absurd (cc); waits_not = λ place e. absurd (cc); makes_none = λ e. absurd (cc) }
 
 pub plain_use_ended : (job : JobName) → IsPlain (UseEnded job)
-plain_use_ended job = record { orders_none = refl; refuses_none = λ x e. absurd (cc); says = λ e. absurd (cc); waits_not = λ place e. absurd (cc) }
+plain_use_ended job = record { orders_none = refl; refuses_none = λ x e. absurd (cc); says = λ e. absurd (cc); waits_not = λ place e. absurd (cc); makes_none = λ e. absurd (cc) }
 
 pub plain_noted : IsPlain Noted
-plain_noted = record { orders_none = refl; refuses_none = λ x e. absurd (cc); says = λ e. absurd (cc); waits_not = λ place e. absurd (cc) }
+plain_noted = record { orders_none = refl; refuses_none = λ x e. absurd (cc); says = λ e. absurd (cc); waits_not = λ place e. absurd (cc); makes_none = λ e. absurd (cc) }
 
 -- the phase is that of an end by no launch
 abbrev pub IsEndOnQueue : Phase → Type 0
