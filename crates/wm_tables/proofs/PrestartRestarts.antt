@@ -25,7 +25,7 @@ use Rattle.wm_law.proofs.Maxuse.{opening_is_within_maxuse}
 use Rattle.wm_law.proofs.Requests.{idle_runs, running_now}
 use Rattle.wm_law.proofs.SoundPrestart.{opening_is_prestart_sound}
 use Rattle.wm_tables.specs.Laws.{RestartIsPrestartSound, RestartIsWithinMaxuse}
-use Rattle.wm_tables.specs.Ranges.{AreInRange}
+use Rattle.wm_law.specs.Ranges.{AreInRange}
 use Rattle.wm_tables.proofs.Building.{IsAnew, IsBuilt, built}
 use Rattle.wm_tables.proofs.RangedLaunches.{described_in}
 use Rattle.wm_tables.proofs.RangedRestarts.{restart_is_in_range}
