@@ -1,5 +1,5 @@
 -- What keeps the ranges of jobs.
-use Rattle.std.proofs.Common.{◌≡◌, ◌++◌, List, [], ◌∷◌, map, Option, Some, None, refl, sym, subst, inl, inr}
+use Rattle.std.proofs.Common.{◌≡◌, ◌++◌, List, [], ◌∷◌, map, sym, subst, inl, inr}
 use Rattle.std.specs.Option.{IsSome}
 use Rattle.wm_base.specs.declared.qname.QName.{QName}
 use Rattle.wm_desc.specs.Table.{object_named}
@@ -8,12 +8,11 @@ use Rattle.wm_law.specs.Laws.{IsIn}
 use Rattle.wm_law.specs.declared.job.Job.{Job}
 use Rattle.wm_law.specs.declared.job.JobKind.{JobKind}
 use Rattle.wm_law.specs.declared.job.JobKind.TheVariants.{Bch, Asj, Pj}
-use Rattle.wm_law.specs.declared.state.State.{State}
 use Rattle.wm_law.proofs.Members.{of_last, of_mapped}
 use Rattle.wm_rows.specs.Stored.{IsPhase, IsStored, stored_of, stored_phase}
 use Rattle.wm_rows.specs.declared.stored_job.StoredJob.{StoredJob}
 use Rattle.wm_rows.specs.declared.stored_job.StoredPhase.{StoredPhase}
-use Rattle.wm_tables.specs.Ranges.{IsInRange, IsJobInRange}
+use Rattle.wm_tables.specs.Ranges.{IsJobInRange}
 use Rattle.wm_tables.specs.Restart.{HasLengths, IsOfKind}
 
 -- each job keeps its ranges

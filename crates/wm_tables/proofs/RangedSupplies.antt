@@ -1,5 +1,5 @@
 -- Wishes and requests keep the ranges of jobs, and so do prestart jobs that are made.
-use Rattle.std.proofs.Common.{◌≡◌, ◌≤◌, ◌<◌, ℕ, cond, nat_le, is_some, min, not, nat_lt, length, ◌-◌, List, Option, Some, None, refl, sym, ap, subst, inl, inr, arith}
+use Rattle.std.proofs.Common.{◌≡◌, ◌≤◌, ◌<◌, ℕ, cond, nat_le, min, ◌-◌, List, Some, refl, sym, ap, subst, inl, inr, arith}
 use Rattle.std.proofs.lemmas.Bool.Decides.{nat_tests}
 use Rattle.wm_base.specs.Name.{IsName}
 use Rattle.wm_base.specs.declared.qname.QName.{QName}
