@@ -1,6 +1,6 @@
 -- What commands on waiting jobs and on held queues do to a state.
-use Rattle.std.proofs.Common.{◌≡◌, ◌⊎◌, ℕ, ◌<◌, ◌+◌, ◌&&◌, ◌==◌, Bool, true, false, cond, List, map, Option, Some, None, is_some, nat_lt, refl, sym, ap, subst, ◌∙◌, inl, inr, arith}
-use Rattle.std.specs.Option.{IsSome, option_or}
+use Rattle.std.proofs.Common.{◌≡◌, ◌⊎◌, ℕ, ◌<◌, ◌≤◌, ◌+◌, ◌&&◌, ◌==◌, Bool, true, false, cond, List, map, Option, Some, None, is_some, nat_lt, unwrap_or, refl, sym, ap, subst, ◌∙◌, inl, inr, arith}
+use Rattle.std.specs.Option.{IfSome, IsSome, option_or}
 use Rattle.std.proofs.lemmas.Bool.Decides.{nat_tests}
 use Rattle.std.proofs.lemmas.Bool.{ltb-true, and_parts, eqb-true}
 use Rattle.wm_base.specs.declared.job.EndCause.{EndCause}
@@ -11,7 +11,7 @@ use Rattle.wm_base.specs.declared.refusal.Refusal.{Refusal}
 use Rattle.wm_desc.specs.Sorted.{added, removed}
 use Rattle.wm_desc.specs.Table.{object_named, qname_cmp, same_qname}
 use Rattle.wm_law.specs.declared.call.Reply.{Reply}
-use Rattle.wm_law.specs.declared.call.Reply.TheVariants.{Changed, Held, JobEnded, JobEnding, No, Nothing, PowerDown, QueueCleared, QueueHeld, QueueReleased, Released, SbsEnding, PreEnding, Evoked, UseEnded, Noted, EvokeWaits}
+use Rattle.wm_law.specs.declared.call.Reply.TheVariants.{Changed, Held, JobEnded, JobEnding, Made, No, Nothing, PowerDown, QueueCleared, QueueHeld, QueueReleased, Released, SbsEnding, PreEnding, Evoked, UseEnded, Noted, EvokeWaits}
 use Rattle.wm_law.specs.declared.command.Chgjob.{Chgjob}
 use Rattle.wm_law.specs.declared.job.Job.{Job}
 use Rattle.wm_law.specs.declared.job.Phase.{Phase}
@@ -28,60 +28,64 @@ use Rattle.wm_law.specs.Order.{is_routing_cause, is_routed_phase}
 use Rattle.wm_law.specs.Queues.{cleared_from, is_on_queue, own_name, waits_on}
 use Rattle.wm_law.specs.Reports.{in_phase}
 use Rattle.wm_law.specs.Submitting.{serials_end}
+use Rattle.wm_law.specs.Fit.{IsBetween, IsJobChange, IsQName}
+use Rattle.wm_law.specs.Ranges.{IsCause}
+use Rattle.wm_law.specs.Wishes.{greatest_moment}
 use Rattle.wm_law.proofs.Members.{of_mapped}
 
--- a reply that orders nothing, refuses nothing, and says something
+-- a reply that orders nothing, refuses nothing, makes no object, and says something
 pub record IsPlain (reply : Reply) : Type 0 where
   pub orders_none : order_in reply ≡ None
   pub refuses_none : (x : Refusal) → reply ≡ No x → ⊥
   pub says : reply ≡ Nothing → ⊥
   pub waits_not : (place : ℕ) → reply ≡ EvokeWaits place → ⊥
+  pub makes_none : reply ≡ Made → ⊥
 
 pub plain_held : (job : JobName) → IsPlain (Held job)
-plain_held job = record { orders_none = refl; refuses_none = λ x e. absurd (cc); says = λ e. absurd (cc); waits_not = λ place e. absurd (cc) }
+plain_held job = record { orders_none = refl; refuses_none = λ x e. absurd (cc); says = λ e. absurd (cc); waits_not = λ place e. absurd (cc); makes_none = λ e. absurd (cc) }
 
 pub plain_released : (job : JobName) → IsPlain (Released job)
-plain_released job = record { orders_none = refl; refuses_none = λ x e. absurd (cc); says = λ e. absurd (cc); waits_not = λ place e. absurd (cc) }
+plain_released job = record { orders_none = refl; refuses_none = λ x e. absurd (cc); says = λ e. absurd (cc); waits_not = λ place e. absurd (cc); makes_none = λ e. absurd (cc) }
 
 pub plain_changed : (job : JobName) → IsPlain (Changed job)
-plain_changed job = record { orders_none = refl; refuses_none = λ x e. absurd (cc); says = λ e. absurd (cc); waits_not = λ place e. absurd (cc) }
+plain_changed job = record { orders_none = refl; refuses_none = λ x e. absurd (cc); says = λ e. absurd (cc); waits_not = λ place e. absurd (cc); makes_none = λ e. absurd (cc) }
 
 pub plain_queue_held : IsPlain QueueHeld
-plain_queue_held = record { orders_none = refl; refuses_none = λ x e. absurd (cc); says = λ e. absurd (cc); waits_not = λ place e. absurd (cc) }
+plain_queue_held = record { orders_none = refl; refuses_none = λ x e. absurd (cc); says = λ e. absurd (cc); waits_not = λ place e. absurd (cc); makes_none = λ e. absurd (cc) }
 
 pub plain_queue_released : IsPlain QueueReleased
-plain_queue_released = record { orders_none = refl; refuses_none = λ x e. absurd (cc); says = λ e. absurd (cc); waits_not = λ place e. absurd (cc) }
+plain_queue_released = record { orders_none = refl; refuses_none = λ x e. absurd (cc); says = λ e. absurd (cc); waits_not = λ place e. absurd (cc); makes_none = λ e. absurd (cc) }
 
 pub plain_cleared : (count : ℕ) → IsPlain (QueueCleared count)
-plain_cleared count = record { orders_none = refl; refuses_none = λ x e. absurd (cc); says = λ e. absurd (cc); waits_not = λ place e. absurd (cc) }
+plain_cleared count = record { orders_none = refl; refuses_none = λ x e. absurd (cc); says = λ e. absurd (cc); waits_not = λ place e. absurd (cc); makes_none = λ e. absurd (cc) }
 
 pub plain_job_ending : (job : JobName) → IsPlain (JobEnding job)
-plain_job_ending job = record { orders_none = refl; refuses_none = λ x e. absurd (cc); says = λ e. absurd (cc); waits_not = λ place e. absurd (cc) }
+plain_job_ending job = record { orders_none = refl; refuses_none = λ x e. absurd (cc); says = λ e. absurd (cc); waits_not = λ place e. absurd (cc); makes_none = λ e. absurd (cc) }
 
 pub plain_job_ended : (job : JobName) → IsPlain (JobEnded job)
-plain_job_ended job = record { orders_none = refl; refuses_none = λ x e. absurd (cc); says = λ e. absurd (cc); waits_not = λ place e. absurd (cc) }
+plain_job_ended job = record { orders_none = refl; refuses_none = λ x e. absurd (cc); says = λ e. absurd (cc); waits_not = λ place e. absurd (cc); makes_none = λ e. absurd (cc) }
 
 pub plain_sbs_ending : (sbs : QName) → IsPlain (SbsEnding sbs)
-plain_sbs_ending sbs = record { orders_none = refl; refuses_none = λ x e. absurd (cc); says = λ e. absurd (cc); waits_not = λ place e. absurd (cc) }
+plain_sbs_ending sbs = record { orders_none = refl; refuses_none = λ x e. absurd (cc); says = λ e. absurd (cc); waits_not = λ place e. absurd (cc); makes_none = λ e. absurd (cc) }
 
 pub plain_power_down : IsPlain PowerDown
-plain_power_down = record { orders_none = refl; refuses_none = λ x e. absurd (cc); says = λ e. absurd (cc); waits_not = λ place e. absurd (cc) }
+plain_power_down = record { orders_none = refl; refuses_none = λ x e. absurd (cc); says = λ e. absurd (cc); waits_not = λ place e. absurd (cc); makes_none = λ e. absurd (cc) }
 
 pub plain_pre_ending : IsPlain PreEnding
-plain_pre_ending = record { orders_none = refl; refuses_none = λ x e. absurd (cc); says = λ e. absurd (cc); waits_not = λ place e. absurd (cc) }
+plain_pre_ending = record { orders_none = refl; refuses_none = λ x e. absurd (cc); says = λ e. absurd (cc); waits_not = λ place e. absurd (cc); makes_none = λ e. absurd (cc) }
 
 pub plain_evoked : (job : JobName) → IsPlain (Evoked job)
-plain_evoked job = record { orders_none = refl; refuses_none = λ x e. absurd (cc); says = λ e. absurd (cc); waits_not = λ place e. absurd (cc) }
+plain_evoked job = record { orders_none = refl; refuses_none = λ x e. absurd (cc); says = λ e. absurd (cc); waits_not = λ place e. absurd (cc); makes_none = λ e. absurd (cc) }
 
 pub plain_use_ended : (job : JobName) → IsPlain (UseEnded job)
-plain_use_ended job = record { orders_none = refl; refuses_none = λ x e. absurd (cc); says = λ e. absurd (cc); waits_not = λ place e. absurd (cc) }
+plain_use_ended job = record { orders_none = refl; refuses_none = λ x e. absurd (cc); says = λ e. absurd (cc); waits_not = λ place e. absurd (cc); makes_none = λ e. absurd (cc) }
 
 pub plain_noted : IsPlain Noted
-plain_noted = record { orders_none = refl; refuses_none = λ x e. absurd (cc); says = λ e. absurd (cc); waits_not = λ place e. absurd (cc) }
+plain_noted = record { orders_none = refl; refuses_none = λ x e. absurd (cc); says = λ e. absurd (cc); waits_not = λ place e. absurd (cc); makes_none = λ e. absurd (cc) }
 
 -- the phase is that of an end by no launch
 abbrev pub IsEndOnQueue : Phase → Type 0
-IsEndOnQueue p = (c : EndCause) × (p ≡ Ended c) × (is_routing_cause c ≡ false)
+IsEndOnQueue p = (c : EndCause) × (p ≡ Ended c) × (is_routing_cause c ≡ false) × IsCause c
 
 -- a job that waited is the same job, which waits on or has ended by no launch; a new queue of it is an object
 pub record IsAltered (s : State) (j k : Job) : Type 0 where
@@ -96,6 +100,14 @@ pub record IsAltered (s : State) (j k : Job) : Type 0 where
   pub phase : (is_waiting k.phase ≡ true) ⊎ IsEndOnQueue k.phase
   pub queue : IsSome j.jobq → IsSome k.jobq
   pub is_object : (q : QName) → k.jobq ≡ Some q → (j.jobq ≡ Some q) ⊎ IsSome (object_named q s.objects.jobqs)
+
+-- a job keeps all that a waiting job can't change, and what is changed keeps its range
+pub record KeepsRanges (s : State) (j k : Job) : Type 0 where
+  pub same : k ≡ record j { jobq = k.jobq; pty = k.pty; place = k.place; held = k.held; due = k.due; phase = k.phase }
+  pub jobq : (q : QName) → k.jobq ≡ Some q → (j.jobq ≡ Some q) ⊎ IsQName q
+  pub pty : IsBetween 1 9 j.pty → IsBetween 1 9 k.pty
+  pub place : (k.place ≡ j.place) ⊎ (k.place ≡ s.next_place)
+  pub due : j.due ≤ greatest_moment → k.due ≤ greatest_moment
 
 -- no place changes, and none is taken
 pub record PlacesStay (s : State) (change : Job → Job) (place : ℕ) : Type 0 where
@@ -143,6 +155,30 @@ module _ (s : State) (serial : ℕ) (change : Job → Job) where
   pub altered_at : ((j : Job) → is_waiting j.phase ≡ true → IsAltered s j (change j)) → (j : Job) → (waiting_at serial change j ≡ j) ⊎ IsAltered s j (waiting_at serial change j)
   altered_at h j = at_by j (is_waiting j.phase && j.serial == serial) refl (h j)
 
+-- what a change of each job comes to
+abbrev pub KeepAll : State → (Job → Job) → Type 0
+KeepAll s change = (j : Job) → KeepsRanges s j (change j)
+
+ranges_by : (s : State) (j k : Job) (b : Bool) → KeepsRanges s j k → KeepsRanges s j (cond b k j)
+ranges_by s j k true h = h
+ranges_by s j k false h = record { same = refl; jobq = λ q e. inl e; pty = λ h. h; place = inl refl; due = λ h. h }
+
+pub holding_keeps : (s : State) (serial : ℕ) (held : Bool) → KeepAll s (waiting_at serial (with_held held))
+holding_keeps s serial held j = ranges_by s j (with_held held j) (is_waiting j.phase && j.serial == serial) (record { same = refl; jobq = λ q e. inl e; pty = λ h. h; place = inl refl; due = λ h. h })
+
+pub due_keeps : (s : State) (serial due : ℕ) → due ≤ greatest_moment → KeepAll s (waiting_at serial (with_due due))
+due_keeps s serial due late j = ranges_by s j (with_due due j) (is_waiting j.phase && j.serial == serial) (record { same = refl; jobq = λ q e. inl e; pty = λ h. h; place = inl refl; due = λ h. late })
+
+pub ending_keeps : (s : State) (serial : ℕ) (phase : Phase) → KeepAll s (waiting_at serial (in_phase phase))
+ending_keeps s serial phase j = ranges_by s j (in_phase phase j) (is_waiting j.phase && j.serial == serial) (record { same = refl; jobq = λ q e. inl e; pty = λ h. h; place = inl refl; due = λ h. h })
+
+pub clearing_keeps : (s : State) (queue : QName) → KeepAll s (cleared_from queue)
+clearing_keeps s queue j = ranges_by s j (in_phase (Ended Cleared) j) (waits_on queue j) (record { same = refl; jobq = λ q e. inl e; pty = λ h. h; place = inl refl; due = λ h. h })
+
+pty_or : (wanted : Option ℕ) (pty : ℕ) → IfSome wanted (IsBetween 1 9) → IsBetween 1 9 pty → IsBetween 1 9 (unwrap_or wanted pty)
+pty_or None pty w h = h
+pty_or (Some n) pty w h = w
+
 place_at : (change : Job → Job) (j : Job) (b : Bool) → (change j).place ≡ j.place → (cond b (change j) j).place ≡ j.place
 place_at change j true h = h
 place_at change j false h = refl
@@ -162,7 +198,7 @@ due_alters s serial due = record {
 -- ENDJOB on a job that waits
 pub ending_alters : (s : State) (serial : ℕ) → IsAlteration s (waiting_at serial (in_phase (Ended EndedOnQueue))) s.next_place
 ending_alters s serial = record {
-  each = altered_at s serial (in_phase (Ended EndedOnQueue)) (λ j w. record { waits = w; serial = refl; job = refl; kind = refl; how = refl; wish = refl; uses = refl; evoke = refl; phase = inr (EndedOnQueue, refl, refl); queue = λ h. h; is_object = λ q e. inl e });
+  each = altered_at s serial (in_phase (Ended EndedOnQueue)) (λ j w. record { waits = w; serial = refl; job = refl; kind = refl; how = refl; wish = refl; uses = refl; evoke = refl; phase = inr (EndedOnQueue, refl, refl, tt); queue = λ h. h; is_object = λ q e. inl e });
   places = inl (record { same = λ j. place_at (in_phase (Ended EndedOnQueue)) j (is_waiting j.phase && j.serial == serial) refl; next = refl });
 }
 
@@ -176,6 +212,15 @@ of_some a b e = cc
 object_or : (s : State) (wanted present : Option QName) (q : QName) → finds_queue s wanted ≡ true → option_or wanted present ≡ Some q → (present ≡ Some q) ⊎ IsSome (object_named q s.objects.jobqs)
 object_or s None present q h e = inl e
 object_or s (Some w) present q h e = inr (ap (λ (n : QName). is_some (object_named n s.objects.jobqs)) (sym (of_some w q e)) ∙ h)
+
+queue_or : (wanted present : Option QName) (q : QName) → IfSome wanted IsQName → option_or wanted present ≡ Some q → (present ≡ Some q) ⊎ IsQName q
+queue_or None present q h e = inl e
+queue_or (Some w) present q h e = inr (subst IsQName (of_some w q e) h)
+
+pub moving_keeps : (s : State) (c : Chgjob) (serial due : ℕ) → due ≤ greatest_moment → IsJobChange c → KeepAll s (waiting_at serial (moved_to c s.next_place due))
+moving_keeps s c serial due late fit j =
+    ranges_by s j (moved_to c s.next_place due j) (is_waiting j.phase && j.serial == serial)
+    (record { same = refl; jobq = λ q e. queue_or c.jobq j.jobq q fit.jobq e; pty = pty_or c.jobpty j.pty fit.jobpty; place = inr refl; due = λ h. late })
 
 other_at : (change : Job → Job) (serial : ℕ) (j : Job) (b : Bool) → (is_waiting j.phase && j.serial == serial) ≡ b → (j.serial ≡ serial → ⊥) → cond b (change j) j ≡ j
 other_at change serial j true e other = absurd (other (eqb-true j.serial serial (and_parts (is_waiting j.phase) (j.serial == serial) e).1))
@@ -199,7 +244,7 @@ moving_alters s c serial due left q = record {
 }
 
 cleared_by : (s : State) (queue : QName) (j : Job) (b : Bool) → waits_on queue j ≡ b → (cond b (in_phase (Ended Cleared) j) j ≡ j) ⊎ IsAltered s j (cond b (in_phase (Ended Cleared) j) j)
-cleared_by s queue j true e = inr (record { waits = (and_parts (is_waiting j.phase) (is_on_queue queue j.jobq) e).0; serial = refl; job = refl; kind = refl; how = refl; wish = refl; uses = refl; evoke = refl; phase = inr (Cleared, refl, refl); queue = λ h. h; is_object = λ q e. inl e })
+cleared_by s queue j true e = inr (record { waits = (and_parts (is_waiting j.phase) (is_on_queue queue j.jobq) e).0; serial = refl; job = refl; kind = refl; how = refl; wish = refl; uses = refl; evoke = refl; phase = inr (Cleared, refl, refl, tt); queue = λ h. h; is_object = λ q e. inl e })
 cleared_by s queue j false e = inl refl
 
 pub clearing_alters : (s : State) (queue : QName) → IsAlteration s (cleared_from queue) s.next_place

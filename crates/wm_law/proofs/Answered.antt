@@ -19,17 +19,17 @@ answers s call = record {
   nothing = λ none n e. none n;
   notes = λ n e. absurd (cc);
   hands = λ m j o i k f n e. absurd (cc);
-  reports = λ serial j phase stopped i k r l n e. absurd (cc);
+  reports = λ serial j phase stopped i k r l fit n e. absurd (cc);
   starts = λ q k n e. absurd (cc);
-  enters = λ user c d due has n e. absurd (cc);
-  alters = λ reply change place p a n e. p.says e;
-  holds = λ reply held p a told n e. p.says e;
+  enters = λ user c d due has fit n e. absurd (cc);
+  alters = λ reply change place p a fit n e. p.says e;
+  holds = λ reply held p a told fit n e. p.says e;
   ends = λ reply change started stopped evokes power p a told n e. p.says e;
   uses = λ reply change p u n e. p.says e;
   waits = λ place evokes is n e. absurd (cc);
   prestarts = λ q d x can n e. absurd (cc);
   kills = λ m j i k n e. absurd (cc);
-  makes = λ o c told n e. absurd (cc);
+  makes = λ o c told fit n e. absurd (cc);
 }
 
 pub calls_are_answered : CallsAreAnswered

@@ -27,19 +27,19 @@ aside s call none = record {
   nothing = λ n. same s;
   notes = same s;
   hands = λ m j o i k f. record { objects = refl; held = refl; offset = refl };
-  reports = λ serial j phase stopped i k r n. record { objects = refl; held = refl; offset = refl };
+  reports = λ serial j phase stopped i k r n fit. record { objects = refl; held = refl; offset = refl };
   starts = λ q k. started_keeps (IsAside s) s q k
       (supplied_aside s)
       (autos_made (IsAside s) s q k (λ t e d m a. record { objects = a.objects; held = a.held; offset = a.offset }) (record { objects = refl; held = refl; offset = refl }));
-  enters = λ user c d due has. record { objects = refl; held = refl; offset = refl };
-  alters = λ reply change place p a. record { objects = refl; held = refl; offset = refl };
-  holds = λ reply held p a told. absurd (true≢false (sym told ∙ none));
+  enters = λ user c d due has fit. record { objects = refl; held = refl; offset = refl };
+  alters = λ reply change place p a fit. record { objects = refl; held = refl; offset = refl };
+  holds = λ reply held p a told fit. absurd (true≢false (sym told ∙ none));
   ends = λ reply change started stopped evokes power p e told. record { objects = refl; held = refl; offset = refl };
   uses = λ reply change p u. record { objects = refl; held = refl; offset = refl };
   waits = λ place evokes is. record { objects = refl; held = refl; offset = refl };
   prestarts = λ q d e can. prestart_keeps (IsAside s) s q d e can (supplied_aside s) (record { objects = refl; held = refl; offset = refl });
   kills = λ m j i k. record { objects = refl; held = refl; offset = refl };
-  makes = λ o c told. absurd (true≢false (sym told ∙ none));
+  makes = λ o c told fit. absurd (true≢false (sym told ∙ none));
 }
 
 pub call_is_aside : (s : State) (caller : ℕ) (call : Call) → is_configuring_call call ≡ false → IsAside s (apply s caller call).state

@@ -47,6 +47,8 @@ pub mod PreOrders
 pub mod PresInOrder
 pub mod Queued
 pub mod Quiet
+pub mod RangedMoments
+pub mod RangedObjects
 pub mod Ranks
 pub mod Refusals
 pub mod Remade

@@ -129,11 +129,11 @@ lists_called s call places h = record {
   nothing = λ n. h;
   notes = h;
   hands = λ m j o i k f. h;
-  reports = λ serial j phase stopped i e r n. record { stops = (called_lists s stopped (record { requests = s.evokes; known = λ e i. inl i; few = λ sbs pgm. inl (omega arith) }) places h).stops; requests = h.requests; few = h.few };
+  reports = λ serial j phase stopped i e r n fit. record { stops = (called_lists s stopped (record { requests = s.evokes; known = λ e i. inl i; few = λ sbs pgm. inl (omega arith) }) places h).stops; requests = h.requests; few = h.few };
   starts = λ q k. started_keeps HasLists s q k supplies_lists (autos_made HasLists s q k (λ t e d m a. a) (begun_lists s q h));
-  enters = λ user c d due has. h;
-  alters = λ reply change place p a. h;
-  holds = λ reply held p a told. h;
+  enters = λ user c d due has fit. h;
+  alters = λ reply change place p a fit. h;
+  holds = λ reply held p a told fit. h;
   ends = λ reply change started stopped evokes power p e told. (
       let new = called_lists s stopped evokes places h in
       lists_still (record s { stopped = stopped.stops; evokes = evokes.requests }) started s.objects (λ how. ending s started how e.subsystems) new);
@@ -141,7 +141,7 @@ lists_called s call places h = record {
   waits = λ place evokes is. (let new = called_lists s (record { stops = s.stopped; known = λ e i. inl i }) evokes places h in new);
   prestarts = λ q d e can. prestart_keeps HasLists s q d e can supplies_lists (record { stops = λ x i. h.stops x (left_in (λ (y : Stop). not (same_qname y.sbs q && same_qname y.pgm e.pgm)) s.stopped x i); requests = h.requests; few = h.few });
   kills = λ m j i k. h;
-  makes = λ o c told. lists_still s s.started o (λ how. remade s o how c) h;
+  makes = λ o c told fit. lists_still s s.started o (λ how. remade s o how c) h;
 }
 
 -- a subsystem of the name isn't gone, where none of the name is

@@ -1,6 +1,6 @@
 -- What a call can come to, and what a step can do to a state. The calls are gone over one by one, so that laws need no case
 -- for each.
-use Rattle.std.proofs.Common.{◌≡◌, ℕ, ◌<◌, ◌≤◌, ◌-◌, ◌+◌, ◌==◌, not, Bool, true, false, cond, List, [], ◌∷◌, ◌++◌, length, fold, Option, Some, None, is_some, nat_le, nat_lt, min, refl, inl, inr, arith, filter, sym, subst, ◌⊎◌, ◌∙◌, ap, unwrap_or, nat_eq, ◌&&◌}
+use Rattle.std.proofs.Common.{◌≡◌, ℕ, ◌<◌, ◌≤◌, ◌^◌, ◌-◌, ◌+◌, ◌==◌, not, Bool, true, false, cond, List, [], ◌∷◌, ◌++◌, length, fold, Option, Some, None, is_some, nat_le, nat_lt, min, refl, inl, inr, arith, filter, sym, subst, ◌⊎◌, ◌∙◌, ap, unwrap_or, nat_eq, ◌&&◌}
 use Rattle.std.specs.List.{count_by, find}
 use Rattle.std.specs.Prelude.{Result, Ok, Err}
 use Rattle.std.specs.Option.{IsSome}
@@ -11,6 +11,8 @@ use Rattle.wm_base.specs.declared.job.Asked.TheVariants.{Start, Kill}
 use Rattle.wm_base.specs.declared.job.EndCause.{EndCause}
 use Rattle.wm_base.specs.declared.job.EndCause.TheVariants as cause
 use Rattle.wm_base.specs.declared.job.Exit.{Exit}
+use Rattle.wm_base.specs.declared.job.Exit.TheVariants as exit
+use Rattle.wm_base.specs.Name.{IsName}
 use Rattle.wm_base.specs.declared.job.StartCause.{StartCause}
 use Rattle.wm_base.specs.declared.job.StartOrder.{StartOrder}
 use Rattle.wm_base.specs.declared.qname.QName.{QName}
@@ -24,7 +26,7 @@ use Rattle.wm_base.proofs.Tests.{unrefused}
 use Rattle.wm_desc.specs.declared.description.Jobd.{Jobd}
 use Rattle.wm_desc.specs.declared.entry.AutoEntry.{AutoEntry}
 use Rattle.wm_desc.specs.declared.objects.Objects.{Objects}
-use Rattle.wm_desc.specs.Sorted.{added, removed}
+use Rattle.wm_desc.specs.Sorted.{added, place_of, removed}
 use Rattle.wm_desc.specs.Table.{object_named, qname_cmp, same_qname}
 use Rattle.wm_law.specs.declared.call.Call.{Call}
 use Rattle.wm_law.specs.declared.call.Call.TheVariants.{Change, Hand, Started, StartFailed, Finished, UseDone, Tick}
@@ -36,11 +38,15 @@ use Rattle.wm_law.specs.declared.command.Command.TheVariants as command
 use Rattle.wm_law.specs.declared.command.Chgjob.{Chgjob}
 use Rattle.wm_law.specs.declared.command.Endjob.{Endjob}
 use Rattle.wm_law.specs.declared.command.Endsbs.{Endsbs}
+use Rattle.wm_law.specs.declared.command.JobRef.{JobRef}
 use Rattle.wm_law.specs.declared.command.Sbmjob.{Sbmjob}
 use Rattle.wm_law.specs.declared.job.Job.{Job}
 use Rattle.wm_law.specs.declared.job.Phase.{Phase}
 use Rattle.wm_law.specs.declared.job.Phase.TheVariants.{Waiting, Starting, Handed, Running, Ended}
+use Rattle.wm_law.specs.declared.job.Why.{Why}
+use Rattle.wm_law.specs.declared.job.Why.TheVariants as why
 use Rattle.wm_law.specs.declared.job.Wish.{Wish}
+use Rattle.wm_law.specs.declared.job.Wish.TheVariants as wish
 use Rattle.wm_law.specs.declared.state.Evoke.{Evoke}
 use Rattle.wm_law.specs.declared.state.Power.{Power}
 use Rattle.wm_law.specs.declared.state.Sbs.{Sbs}
@@ -62,15 +68,17 @@ use Rattle.wm_law.specs.Settling.{come_due, job_at, leave, ready, sbss_at, waiti
 use Rattle.wm_law.specs.Stepped.{Stepped, refused}
 use Rattle.wm_law.specs.Submitting.{submit_due, submit_with, submitted_job, entered, has_numbers, job_name, numbers_end, numbers_left, queue_of, serials_end}
 use Rattle.wm_law.specs.Schedules.{rescheduled, scheduled}
-use Rattle.wm_law.specs.Named.{is_named, job_named, only_one, waiting_named}
+use Rattle.wm_law.specs.Named.{if_waiting, is_named, job_named, only_one, waiting_named}
 use Rattle.wm_law.specs.Holding.{hold_found, release_found, with_held}
 use Rattle.wm_law.specs.Changing.{change_due, change_found, finds_queue, moved_to, stays, with_due}
 use Rattle.wm_law.specs.Queues.{clear_queue, cleared_from, hold_queue, own_name, release_queue, waits_on}
 use Rattle.wm_law.specs.Jobs.{active_at, waiting_at, with_active}
-use Rattle.wm_law.specs.Wishes.{now_cause, with_wish}
+use Rattle.wm_law.specs.Wishes.{greatest_moment, now_cause, why_cause, with_wish}
+use Rattle.wm_law.specs.Fit.{IsCall, IsExit, IsJobChange, IsQName, IsSubmission}
+use Rattle.wm_law.specs.Ranges.{AreInRange, IsCause}
 use Rattle.wm_law.specs.CallKinds.{is_configuring_call, is_ending_call}
 use Rattle.wm_law.specs.Choice.{is_held, is_sbs_active, next}
-use Rattle.wm_law.proofs.Alterations.{IsAlteration, IsHolding, IsPlain, altered, clearing_alters, due_alters, ending_alters, holding_alters, moving_alters, plain_changed, plain_cleared, plain_held, plain_job_ended, plain_job_ending, plain_power_down, plain_sbs_ending, plain_queue_held, plain_queue_released, plain_released, plain_pre_ending, plain_evoked, plain_use_ended, plain_noted}
+use Rattle.wm_law.proofs.Alterations.{IsAlteration, IsHolding, IsPlain, KeepAll, altered, clearing_alters, clearing_keeps, due_alters, due_keeps, ending_alters, ending_keeps, holding_alters, holding_keeps, moving_alters, moving_keeps, plain_changed, plain_cleared, plain_held, plain_job_ended, plain_job_ending, plain_power_down, plain_sbs_ending, plain_queue_held, plain_queue_released, plain_released, plain_pre_ending, plain_evoked, plain_use_ended, plain_noted}
 use Rattle.wm_law.proofs.Endings.{IsEnding, all_end, coming_due, job_ends, kill_ends, those_end, wished, use_ends, use_done_ends, entry_ends}
 use Rattle.wm_law.specs.Subsystems.{begun, is_started, max_started, start_refusal, start_unless, started_up, with_autos}
 use Rattle.wm_law.proofs.Members.{found_among, last_in, left_in}
@@ -88,6 +96,9 @@ use Rattle.wm_law.specs.Prestart.{after_use, count_available, count_evokes, firs
 use Rattle.wm_law.specs.Prestarting.{end_entry, end_entry_in, end_entry_with, prestart_entry, prestart_in, prestart_with, prestarted, restarted, without_stop}
 use Rattle.wm_law.specs.Sound.{IsUpToDate, CameByEntry}
 use Rattle.wm_law.specs.Uses.{done_with, end_use_found, evoke_entry, evoke_in, evoke_on, evoke_with, max_evokes, maxuse_by, use_done_on}
+use Rattle.wm_law.proofs.InOrder.{in_inserted}
+use Rattle.wm_law.proofs.RangedMoments.{again_within}
+use Rattle.wm_law.proofs.RangedObjects.{class_range, program_range, queue_range, jobd_range, sbsd_range, queue_entry_range, route_entry_range, auto_entry_range, pre_entry_range, without_queue_range, without_route_range, without_auto_range, without_pre_range}
 use Rattle.wm_law.proofs.Rounds.{room-is}
 use Rattle.wm_law.proofs.UsesUp.{used_up, done_at}
 use Rattle.wm_law.proofs.Listed.{StopsOn, RequestsOn, same_stops, same_requests, requests_left, request_more, stop_more, stops_reported, known_by}
@@ -103,8 +114,9 @@ pub record IsMoved (j : Job) (q : Phase) : Type 0 where
   pub onward : IsOnward j.phase q
   pub end : IsEndOn j.phase j.wish q
 
--- SBMJOB isn't refused: there is a due moment, numbers are left, and the job's queue is an object
+-- SBMJOB isn't refused: there is a due moment, numbers are left, and the job description and the job's queue are objects
 pub record IsAcceptable (s : State) (c : Sbmjob) (d : Jobd) (due : ℕ) : Type 0 where
+  pub described : object_named c.jobd s.objects.jobds ≡ Some d
   pub scheduled : scheduled s c.scddate c.scdtime ≡ Ok due
   pub numbers : has_numbers s ≡ true
   pub queue : IsSome (object_named (queue_of c d) s.objects.jobqs)
@@ -148,27 +160,44 @@ the_one [] j e = absurd (cc)
 the_one (k ∷ []) j e = let same : k ≡ j = cc in inl (sym same)
 the_one (k ∷ i ∷ jobs) j e = absurd (cc)
 
+one_waits : (k j : Job) (x : Refusal) (t : Bool) → cond t (Ok k) (Err x) ≡ Ok j → k ≡ j
+one_waits k j x true e = cc
+one_waits k j x false e = absurd (cc)
+
+waits_among : (jobs : List Job) (j : Job) → if_waiting (only_one jobs) ≡ Ok j → IsIn j jobs
+waits_among [] j e = absurd (cc)
+waits_among (k ∷ []) j e = inl (sym (one_waits k j (WrongPhase (phase_word k.phase)) (is_waiting k.phase) e))
+waits_among (k ∷ i ∷ jobs) j e = absurd (cc)
+
+-- a job that is named and waits stands among the jobs
+among_waiting : (s : State) (ref : JobRef) (j : Job) → waiting_named s ref ≡ Ok j → IsIn j s.jobs
+among_waiting s ref j e = left_in (is_named ref) s.jobs j (waits_among (filter (is_named ref) s.jobs) j e)
+
+-- the moments at which jobs are due are such that there are
+abbrev pub AreDue : State → Type 0
+AreDue s = (j : Job) → IsIn j s.jobs → j.due ≤ greatest_moment
+
 -- the call is an EVOKE
 abbrev pub IsEvokeCall : Call → Type 0
 IsEvokeCall call = (user : List ℕ) × (c : EvokeCommand) × (call ≡ Change user (command.Evoke c))
 
--- P holds of whatever the call can come to: of its reply, and of the state before it settles
+-- P holds of whatever the call can come to: of its reply, and of the state before it settles. Values of the call that go into the state keep their ranges, where the call's do
 pub record HoldsAfterCalls (P : Stepped → Type 0) (s : State) (call : Call) : Type 0 where
   pub refuses : (x : Refusal) → P (refused s x)
   pub nothing : (is_hand call ≡ false → ⊥) → P (record { reply = Nothing; state = s })
   pub notes : P (record { reply = Noted; state = s })
   pub hands : (m : ℕ) (j : Job) (o : StartOrder) → IsIn j s.jobs → is_starting j.phase ≡ true → order_of s j ≡ Some o → P (record { reply = Order (Start o); state = with_phase s j.serial (Handed m) })
-  pub reports : (serial : ℕ) (j : Job) (phase : Phase) (stopped : StopsOn s) → IsIn j s.jobs → j.serial ≡ serial → IsMoved j phase → is_starting phase ≡ false → P (record { reply = Noted; state = record (with_phase s serial phase) { stopped = stopped.stops } })
+  pub reports : (serial : ℕ) (j : Job) (phase : Phase) (stopped : StopsOn s) → IsIn j s.jobs → j.serial ≡ serial → IsMoved j phase → is_starting phase ≡ false → (IsCall call → (c : EndCause) → phase ≡ Ended c → IsCause c) → P (record { reply = Noted; state = record (with_phase s serial phase) { stopped = stopped.stops } })
   pub starts : (q : QName) → IsStartable s q → P (start_unless s q None)
-  pub enters : (user : List ℕ) (c : Sbmjob) (d : Jobd) (due : ℕ) → IsAcceptable s c d due → P (record { reply = Submitted (job_name s user c) (queue_of c d); state = entered s (submitted_job s user c d due) })
-  pub alters : (reply : Reply) (change : Job → Job) (place : ℕ) → IsPlain reply → IsAlteration s change place → P (record { reply = reply; state = altered s change place })
-  pub holds : (reply : Reply) (held : List QName) → IsPlain reply → IsHolding s held → is_configuring_call call ≡ true → P (record { reply = reply; state = record s { held = held } })
+  pub enters : (user : List ℕ) (c : Sbmjob) (d : Jobd) (due : ℕ) → IsAcceptable s c d due → (IsCall call → IsName user × IsSubmission c) → P (record { reply = Submitted (job_name s user c) (queue_of c d); state = entered s (submitted_job s user c d due) })
+  pub alters : (reply : Reply) (change : Job → Job) (place : ℕ) → IsPlain reply → IsAlteration s change place → (IsCall call → AreDue s → KeepAll s change) → P (record { reply = reply; state = altered s change place })
+  pub holds : (reply : Reply) (held : List QName) → IsPlain reply → IsHolding s held → is_configuring_call call ≡ true → (IsCall call → (q : QName) → IsIn q held → IsIn q s.held ⊎ IsQName q) → P (record { reply = reply; state = record s { held = held } })
   pub ends : (reply : Reply) (change : Job → Job) (started : List Sbs) (stopped : StopsOn s) (evokes : RequestsOn s) (power : Power) → IsPlain reply → IsEnding s change started power → is_ending_call call ≡ true → P (record { reply = reply; state = wished s change started stopped.stops evokes.requests power })
   pub uses : (reply : Reply) (change : Job → Job) → IsPlain reply → IsUse s change → P (record { reply = reply; state = wished s change s.started s.stopped s.evokes s.power })
   pub waits : (place : ℕ) (evokes : RequestsOn s) → IsEvokeCall call → P (record { reply = EvokeWaits place; state = record s { evokes = evokes.requests } })
   pub prestarts : (q : QName) (d : Sbsd) (e : PreEntry) → IsPrestartable s q d e → P (record { reply = PreStarted; state = prestarted s q d e })
   pub kills : (m : ℕ) (j : Job) → IsIn j s.jobs → is_to_kill m j ≡ true → P (record { reply = Order (Kill j.serial); state = with_active s j.serial with_kill })
-  pub makes : (o : Objects) → IsObjectChange s o → is_configuring_call call ≡ true → P (record { reply = Made; state = record s { objects = o } })
+  pub makes : (o : Objects) → IsObjectChange s o → is_configuring_call call ≡ true → (IsCall call → AreInRange s.objects → AreInRange o) → P (record { reply = Made; state = record s { objects = o } })
 
 -- EVOKE on an idle job
 using_request : (s : State) (q pgm : QName) (j : Job) → IsAssignable q pgm s j → IsUse s (active_at j.serial with_evoke)
@@ -199,55 +228,57 @@ module _ (P : Stepped → Type 0) (s : State) (call : Call) (h : HoldsAfterCalls
   start q None e = h.starts q (startable s q e)
   start q (Some x) e = h.refuses x
 
-  submitted : (user : List ℕ) (c : Sbmjob) (d : Jobd) (r : Result ℕ Refusal) → scheduled s c.scddate c.scdtime ≡ r → IsSome (object_named (queue_of c d) s.objects.jobqs) → P (submit_due s user c d r)
-  submitted user c d (Err x) e queue = h.refuses x
-  submitted user c d (Ok due) e queue =
-      either (has_numbers s) _ _ (λ t. h.enters user c d due (record { scheduled = e; numbers = t; queue = queue })) (λ t. h.refuses NumbersUsed)
+  submitted : (user : List ℕ) (c : Sbmjob) (d : Jobd) (r : Result ℕ Refusal) → (IsCall call → IsName user × IsSubmission c) → object_named c.jobd s.objects.jobds ≡ Some d → scheduled s c.scddate c.scdtime ≡ r → IsSome (object_named (queue_of c d) s.objects.jobqs) → P (submit_due s user c d r)
+  submitted user c d (Err x) fit k e queue = h.refuses x
+  submitted user c d (Ok due) fit k e queue =
+      either (has_numbers s) _ _ (λ t. h.enters user c d due (record { described = k; scheduled = e; numbers = t; queue = queue }) fit) (λ t. h.refuses NumbersUsed)
 
-  submitted_with : (user : List ℕ) (c : Sbmjob) (d : Option Jobd) → P (submit_with s user c d)
-  submitted_with user c None = h.refuses (NoObject kind.Jobd)
-  submitted_with user c (Some d) =
-      either (is_some (object_named (queue_of c d) s.objects.jobqs)) _ _ (λ t. submitted user c d (scheduled s c.scddate c.scdtime) refl t) (λ t. h.refuses (NoObject kind.Jobq))
+  submitted_with : (user : List ℕ) (c : Sbmjob) (d : Option Jobd) → (IsCall call → IsName user × IsSubmission c) → object_named c.jobd s.objects.jobds ≡ d → P (submit_with s user c d)
+  submitted_with user c None fit k = h.refuses (NoObject kind.Jobd)
+  submitted_with user c (Some d) fit k =
+      either (is_some (object_named (queue_of c d) s.objects.jobqs)) _ _ (λ t. submitted user c d (scheduled s c.scddate c.scdtime) fit k refl t) (λ t. h.refuses (NoObject kind.Jobq))
 
   held_found : (r : Result Job Refusal) → P (hold_found s r)
   held_found (Err x) = h.refuses x
-  held_found (Ok j) = either j.held _ _ (λ t. h.refuses HeldAlready) (λ t. h.alters (Held j.job) (waiting_at j.serial (with_held true)) s.next_place (plain_held j.job) (holding_alters s j.serial true))
+  held_found (Ok j) = either j.held _ _ (λ t. h.refuses HeldAlready) (λ t. h.alters (Held j.job) (waiting_at j.serial (with_held true)) s.next_place (plain_held j.job) (holding_alters s j.serial true) (λ fit due. holding_keeps s j.serial true))
 
   released_found : (r : Result Job Refusal) → P (release_found s r)
   released_found (Err x) = h.refuses x
-  released_found (Ok j) = either j.held _ _ (λ t. h.alters (Released j.job) (waiting_at j.serial (with_held false)) s.next_place (plain_released j.job) (holding_alters s j.serial false)) (λ t. h.refuses NotHeld)
+  released_found (Ok j) = either j.held _ _ (λ t. h.alters (Released j.job) (waiting_at j.serial (with_held false)) s.next_place (plain_released j.job) (holding_alters s j.serial false) (λ fit due. holding_keeps s j.serial false)) (λ t. h.refuses NotHeld)
 
-  due_changed : (c : Chgjob) (j : Job) (r : Result ℕ Refusal) → finds_queue s c.jobq ≡ true → P (change_due s c j r)
-  due_changed c j (Err x) q = h.refuses x
-  due_changed c j (Ok due) q =
-      either (stays c j) _ _ (λ t. h.alters (Changed j.job) (waiting_at j.serial (with_due due)) s.next_place (plain_changed j.job) (due_alters s j.serial due))
-      (λ t. either (nat_lt s.next_place serials_end) _ _ (λ u. h.alters (Changed j.job) (waiting_at j.serial (moved_to c s.next_place due)) (s.next_place + 1) (plain_changed j.job) (moving_alters s c j.serial due u q)) (λ u. h.refuses NumbersUsed))
+  due_changed : (c : Chgjob) (j : Job) (r : Result ℕ Refusal) → (IsCall call → IsJobChange c) → IsIn j s.jobs → rescheduled s j.due c.scddate c.scdtime ≡ r → finds_queue s c.jobq ≡ true → P (change_due s c j r)
+  due_changed c j (Err x) fit i e q = h.refuses x
+  due_changed c j (Ok due) fit i e q =
+      let late = λ (all : AreDue s). again_within s j.due c.scddate c.scdtime due (all j i) e in
+      either (stays c j) _ _ (λ t. h.alters (Changed j.job) (waiting_at j.serial (with_due due)) s.next_place (plain_changed j.job) (due_alters s j.serial due) (λ f all. due_keeps s j.serial due (late all)))
+      (λ t. either (nat_lt s.next_place serials_end) _ _ (λ u. h.alters (Changed j.job) (waiting_at j.serial (moved_to c s.next_place due)) (s.next_place + 1) (plain_changed j.job) (moving_alters s c j.serial due u q) (λ f all. moving_keeps s c j.serial due (late all) (fit f))) (λ u. h.refuses NumbersUsed))
 
-  changed_found : (c : Chgjob) (r : Result Job Refusal) → P (change_found s c r)
-  changed_found c (Err x) = h.refuses x
-  changed_found c (Ok j) = either (finds_queue s c.jobq) _ _ (λ t. due_changed c j (rescheduled s j.due c.scddate c.scdtime) t) (λ t. h.refuses (NoObject kind.Jobq))
+  changed_found : (c : Chgjob) (r : Result Job Refusal) → (IsCall call → IsJobChange c) → waiting_named s c.job ≡ r → P (change_found s c r)
+  changed_found c (Err x) fit e = h.refuses x
+  changed_found c (Ok j) fit e = either (finds_queue s c.jobq) _ _ (λ t. due_changed c j (rescheduled s j.due c.scddate c.scdtime) fit (among_waiting s c.job j e) refl t) (λ t. h.refuses (NoObject kind.Jobq))
 
-  queue_held : (q : QName) → is_configuring_call call ≡ true → P (hold_queue s q)
-  queue_held q told =
+  queue_held : (q : QName) → is_configuring_call call ≡ true → (IsCall call → IsQName q) → P (hold_queue s q)
+  queue_held q told fit =
       either (is_some (object_named q s.objects.jobqs)) _ _
-      (λ t. either (is_held s q) _ _ (λ u. h.refuses HeldAlready) (λ u. h.holds QueueHeld (added own_name qname_cmp q s.held) plain_queue_held (inl (record { queue = q; is_object = t; new = u; is_with = refl })) told))
+      (λ t. either (is_held s q) _ _ (λ u. h.refuses HeldAlready) (λ u. h.holds QueueHeld (added own_name qname_cmp q s.held) plain_queue_held (inl (record { queue = q; is_object = t; new = u; is_with = refl })) told
+      (λ f p i. elim (in_inserted s.held (place_of own_name qname_cmp q s.held) q p i) as (λ _. IsIn p s.held ⊎ IsQName p) [ inl same ↦ inr (subst IsQName (sym same) (fit f)) | inr was ↦ inl was ])))
       (λ t. h.refuses (NoObject kind.Jobq))
 
   queue_released : (q : QName) → is_configuring_call call ≡ true → P (release_queue s q)
   queue_released q told =
       either (is_some (object_named q s.objects.jobqs)) _ _
-      (λ t. either (is_held s q) _ _ (λ u. h.holds QueueReleased (removed own_name same_qname q s.held) plain_queue_released (inr (record { queue = q; is_without = refl })) told) (λ u. h.refuses NotHeld))
+      (λ t. either (is_held s q) _ _ (λ u. h.holds QueueReleased (removed own_name same_qname q s.held) plain_queue_released (inr (record { queue = q; is_without = refl })) told (λ f p i. inl (left_in (λ (x : QName). not (same_qname x q)) s.held p i))) (λ u. h.refuses NotHeld))
       (λ t. h.refuses (NoObject kind.Jobq))
 
   queue_cleared : (q : QName) → P (clear_queue s q)
   queue_cleared q =
       either (is_some (object_named q s.objects.jobqs)) _ _
-      (λ t. h.alters (QueueCleared (count_by (waits_on q) s.jobs)) (cleared_from q) s.next_place (plain_cleared (count_by (waits_on q) s.jobs)) (clearing_alters s q))
+      (λ t. h.alters (QueueCleared (count_by (waits_on q) s.jobs)) (cleared_from q) s.next_place (plain_cleared (count_by (waits_on q) s.jobs)) (clearing_alters s q) (λ fit due. clearing_keeps s q))
       (λ t. h.refuses (NoObject kind.Jobq))
 
-  made : (objects : Objects) (o : Option Refusal) → is_configuring_call call ≡ true → (o ≡ None → IsObjectChange s objects) → P (made_unless s objects o)
-  made objects None told e = h.makes objects (e refl) told
-  made objects (Some x) told e = h.refuses x
+  made : (objects : Objects) (o : Option Refusal) → is_configuring_call call ≡ true → (o ≡ None → IsObjectChange s objects) → (IsCall call → AreInRange s.objects → o ≡ None → AreInRange objects) → P (made_unless s objects o)
+  made objects None told e fit = h.makes objects (e refl) told (λ f r. fit f r refl)
+  made objects (Some x) told e fit = h.refuses x
 
   active_ended : (c : Endjob) (j : Job) → is_ending_call call ≡ true → IsIn j s.jobs → P (end_active s c j)
   active_ended c j told i =
@@ -255,7 +286,7 @@ module _ (P : Stepped → Type 0) (s : State) (call : Call) (h : HoldsAfterCalls
       (λ t. h.ends (JobEnding j.job) (active_at j.serial (with_wish (job_wish s.clock c.option c.delay))) s.started (same_stops s) (same_requests s) s.power (plain_job_ending j.job) (job_ends s j c.option c.delay i t) told)
 
   ended_in_phase : (c : Endjob) (j : Job) (p : Phase) → is_ending_call call ≡ true → IsIn j s.jobs → P (end_in_phase s c j p)
-  ended_in_phase c j Waiting told i = h.alters (JobEnded j.job) (waiting_at j.serial (in_phase (Ended cause.EndedOnQueue))) s.next_place (plain_job_ended j.job) (ending_alters s j.serial)
+  ended_in_phase c j Waiting told i = h.alters (JobEnded j.job) (waiting_at j.serial (in_phase (Ended cause.EndedOnQueue))) s.next_place (plain_job_ended j.job) (ending_alters s j.serial) (λ fit due. ending_keeps s j.serial (Ended cause.EndedOnQueue))
   ended_in_phase c j Starting told i = active_ended c j told i
   ended_in_phase c j (Handed m) told i = active_ended c j told i
   ended_in_phase c j (Running m) told i = active_ended c j told i
@@ -283,11 +314,11 @@ module _ (P : Stepped → Type 0) (s : State) (call : Call) (h : HoldsAfterCalls
   handed m None none e = started m (find (λ j. is_starting j.phase) s.jobs) none refl
   handed m (Some j) none e = let f = found_among (is_to_kill m) s.jobs j e in h.kills m j f.0 f.1
 
-  reported : (serial : ℕ) (test : Phase → Bool) (phase : Job → Phase) (stops : Job → Bool) (o : Option Job) → ((p : Phase) → test p ≡ true → is_active p ≡ true) → ((j : Job) → test j.phase ≡ true → IsMoved j (phase j)) → ((j : Job) → is_starting (phase j) ≡ false) → find (λ j. j.serial == serial) s.jobs ≡ o → P (report_on s serial test phase stops o)
-  reported serial test phase stops None active ranks n e = h.refuses NoJob
-  reported serial test phase stops (Some j) active ranks n e =
+  reported : (serial : ℕ) (test : Phase → Bool) (phase : Job → Phase) (stops : Job → Bool) (o : Option Job) → ((p : Phase) → test p ≡ true → is_active p ≡ true) → ((j : Job) → test j.phase ≡ true → IsMoved j (phase j)) → ((j : Job) → is_starting (phase j) ≡ false) → ((j : Job) → IsCall call → (c : EndCause) → phase j ≡ Ended c → IsCause c) → find (λ j. j.serial == serial) s.jobs ≡ o → P (report_on s serial test phase stops o)
+  reported serial test phase stops None active ranks n fit e = h.refuses NoJob
+  reported serial test phase stops (Some j) active ranks n fit e =
       let f = found_among (λ (j : Job). j.serial == serial) s.jobs j e in
-      either (test j.phase) (record { reply = Noted; state = record (with_phase s serial (phase j)) { stopped = stops_after stops j s.stopped } }) _ (λ t. h.reports serial j (phase j) (stops_reported s stops j f.0 (active j.phase t)) f.0 (eqb-true j.serial serial f.1) (ranks j t) (n j)) (λ t. h.refuses (WrongPhase (phase_word j.phase)))
+      either (test j.phase) (record { reply = Noted; state = record (with_phase s serial (phase j)) { stopped = stops_after stops j s.stopped } }) _ (λ t. h.reports serial j (phase j) (stops_reported s stops j f.0 (active j.phase t)) f.0 (eqb-true j.serial serial f.1) (ranks j t) (n j) (fit j)) (λ t. h.refuses (WrongPhase (phase_word j.phase)))
 
   use_done : (test : Phase → Bool) (reply : Reply) (j : Job) → IsPlain reply → ((p : Phase) → test p ≡ true → is_running p ≡ true) → IsIn j s.jobs → P (done_with s test reply j)
   use_done test reply j plain runs i =
@@ -428,28 +459,51 @@ finished_end end w c d k e =
     let same : end_cause end w ≡ d = cc in
     sym same ∙ ap (λ (o : Option EndCause). unwrap_or o (exit_cause end)) k
 
+-- the end of a job by its exit or by its wish keeps its range
+exited : (code : ℕ) (t : Bool) → code < 2 ^ 8 → IsCause (cond t cause.Completed (cause.Exited code))
+exited code true h = tt
+exited code false h = let less : code < 256 = h in let most : code ≤ 255 = omega arith in most
+
+exit_range : (end : Exit) → IsExit end → IsCause (exit_cause end)
+exit_range (exit.Code code) h = exited code (code == 0) h
+exit_range exit.Killed h = tt
+
+pub why_range : (w : Why) → IsCause (why_cause w)
+why_range why.Endjob = tt
+why_range why.Endsbs = tt
+why_range why.Endpj = tt
+why_range why.Maxuse = tt
+
+end_range : (end : Exit) (w : Wish) → IsExit end → IsCause (end_cause end w)
+end_range end wish.NoWish h = exit_range end h
+end_range end (wish.Later until why) h = exit_range end h
+end_range end (wish.Now why handed) h = why_range why
+
+cause_by : (c d : EndCause) → Ended c ≡ Ended d → IsCause c → IsCause d
+cause_by c d e h = let same : c ≡ d = cc in subst IsCause same h
+
 changed : (P : Stepped → Type 0) (s : State) (user : List ℕ) (c : Command) → HoldsAfterCalls P s (Change user c) → P (change s user c)
-changed P s user (command.Crtcls c) h = made P s _ h _ _ refl (class_made s c)
-changed P s user (command.Crtjobq c) h = made P s _ h _ _ refl (queue_made s c)
-changed P s user (command.Crtpgmref c) h = made P s _ h _ _ refl (program_made s c)
-changed P s user (command.Crtjobd c) h = made P s _ h _ _ refl (job_description_made s c)
-changed P s user (command.Crtsbsd c) h = made P s _ h _ _ refl (description_made s c)
-changed P s user (command.Addjobqe c) h = made P s _ h _ _ refl (queue_added s c)
-changed P s user (command.Addrtge c) h = made P s _ h _ _ refl (route_added s c)
-changed P s user (command.Addaje c) h = made P s _ h _ _ refl (auto_added s c)
-changed P s user (command.Addpje c) h = made P s _ h _ _ refl (pre_added s c)
-changed P s user (command.Rmvjobqe c) h = made P s _ h _ _ refl (queue_removed s c)
-changed P s user (command.Rmvrtge c) h = made P s _ h _ _ refl (route_removed s c)
-changed P s user (command.Rmvaje c) h = made P s _ h _ _ refl (auto_removed s c)
-changed P s user (command.Rmvpje c) h = made P s _ h _ _ refl (pre_removed s c)
+changed P s user (command.Crtcls c) h = made P s _ h _ _ refl (class_made s c) (λ f r n. class_range s.objects r c f.1)
+changed P s user (command.Crtjobq c) h = made P s _ h _ _ refl (queue_made s c) (λ f r n. queue_range s.objects r c f.1)
+changed P s user (command.Crtpgmref c) h = made P s _ h _ _ refl (program_made s c) (λ f r n. program_range s.objects r c f.1 n)
+changed P s user (command.Crtjobd c) h = made P s _ h _ _ refl (job_description_made s c) (λ f r n. jobd_range s.objects r c f.1)
+changed P s user (command.Crtsbsd c) h = made P s _ h _ _ refl (description_made s c) (λ f r n. sbsd_range s.objects r c f.1)
+changed P s user (command.Addjobqe c) h = made P s _ h _ _ refl (queue_added s c) (λ f r n. queue_entry_range s.objects r c f.1)
+changed P s user (command.Addrtge c) h = made P s _ h _ _ refl (route_added s c) (λ f r n. route_entry_range s.objects r c f.1)
+changed P s user (command.Addaje c) h = made P s _ h _ _ refl (auto_added s c) (λ f r n. auto_entry_range s.objects r c f.1)
+changed P s user (command.Addpje c) h = made P s _ h _ _ refl (pre_added s c) (λ f r n. pre_entry_range s.objects r c f.1)
+changed P s user (command.Rmvjobqe c) h = made P s _ h _ _ refl (queue_removed s c) (λ f r n. without_queue_range s.objects r c.sbsd c.jobq)
+changed P s user (command.Rmvrtge c) h = made P s _ h _ _ refl (route_removed s c) (λ f r n. without_route_range s.objects r c.sbsd c.seqnbr)
+changed P s user (command.Rmvaje c) h = made P s _ h _ _ refl (auto_removed s c) (λ f r n. without_auto_range s.objects r c.sbsd c.job)
+changed P s user (command.Rmvpje c) h = made P s _ h _ _ refl (pre_removed s c) (λ f r n. without_pre_range s.objects r c.sbsd c.pgm)
 changed P s user (command.Strsbs c) h = start P s _ h c.sbsd (start_refusal s c.sbsd) refl
 changed P s user (command.Endsbs c) h = sbs_ended P s _ h c (started_named s c.sbs) refl
-changed P s user (command.Sbmjob c) h = either P s _ h (is_on s.power) _ _ (λ t. submitted_with P s _ h user c (object_named c.jobd s.objects.jobds)) (λ t. h.refuses PoweringDown)
+changed P s user (command.Sbmjob c) h = either P s _ h (is_on s.power) _ _ (λ t. submitted_with P s _ h user c (object_named c.jobd s.objects.jobds) (λ f. f) refl) (λ t. h.refuses PoweringDown)
 changed P s user (command.Hldjob c) h = held_found P s _ h (waiting_named s c.job)
 changed P s user (command.Rlsjob c) h = released_found P s _ h (waiting_named s c.job)
-changed P s user (command.Chgjob c) h = changed_found P s _ h c (waiting_named s c.job)
+changed P s user (command.Chgjob c) h = changed_found P s _ h c (waiting_named s c.job) (λ f. f.1) refl
 changed P s user (command.Endjob c) h = job_ended P s _ h c (job_named s c.job) refl refl
-changed P s user (command.Hldjobq c) h = queue_held P s _ h c.jobq refl
+changed P s user (command.Hldjobq c) h = queue_held P s _ h c.jobq refl (λ f. f.1)
 changed P s user (command.Rlsjobq c) h = queue_released P s _ h c.jobq refl
 changed P s user (command.Clrjobq c) h = queue_cleared P s _ h c.jobq
 changed P s user (command.Strpj c) h = either P s _ h (is_on s.power) _ _ (λ t. prestarted_in P s _ h c (started_named s c.sbs) refl) (λ t. h.refuses PoweringDown)
@@ -464,9 +518,9 @@ changed P s user (command.Pwrdwnsys c) h =
 pub call_comes : (P : Stepped → Type 0) (s : State) (caller : ℕ) (call : Call) → HoldsAfterCalls P s call → P (apply s caller call)
 call_comes P s caller (Change user c) h = changed P s user c h
 call_comes P s caller Hand h = handed P s _ h caller (find (is_to_kill caller) s.jobs) (h.nothing (λ n. absurd (cc))) refl
-call_comes P s caller (Started serial) h = reported P s _ h serial (is_handed_to caller) _ (λ j. false) (find (λ j. j.serial == serial) s.jobs) (handed_active caller) (λ j e. moved_on j (Running caller) 2 (handed_rank caller j.phase e) (omega arith) (omega arith) (omega arith) (λ c d w f. absurd (cc))) (λ j. refl) refl
-call_comes P s caller (StartFailed serial why) h = reported P s _ h serial (is_handed_to caller) _ (λ j. true) (find (λ j. j.serial == serial) s.jobs) (handed_active caller) (λ j e. moved_on j (Ended (cause.StartFailed why)) 2 (handed_rank caller j.phase e) (omega arith) (omega arith) (omega arith) (λ c d w f. inr (failed_end why d f))) (λ j. refl) refl
-call_comes P s caller (Finished serial end) h = reported P s _ h serial (is_run_by caller) _ is_unused (find (λ j. j.serial == serial) s.jobs) (run_active caller) (λ j e. moved_on j (Ended (end_cause end j.wish)) 3 (run_rank caller j.phase e) (omega arith) (omega arith) (omega arith) (λ c d w f. inl (finished_end end j.wish c d w f))) (λ j. refl) refl
+call_comes P s caller (Started serial) h = reported P s _ h serial (is_handed_to caller) _ (λ j. false) (find (λ j. j.serial == serial) s.jobs) (handed_active caller) (λ j e. moved_on j (Running caller) 2 (handed_rank caller j.phase e) (omega arith) (omega arith) (omega arith) (λ c d w f. absurd (cc))) (λ j. refl) (λ j fit c e. absurd (cc)) refl
+call_comes P s caller (StartFailed serial why) h = reported P s _ h serial (is_handed_to caller) _ (λ j. true) (find (λ j. j.serial == serial) s.jobs) (handed_active caller) (λ j e. moved_on j (Ended (cause.StartFailed why)) 2 (handed_rank caller j.phase e) (omega arith) (omega arith) (omega arith) (λ c d w f. inr (failed_end why d f))) (λ j. refl) (λ j fit d e. cause_by (cause.StartFailed why) d e tt) refl
+call_comes P s caller (Finished serial end) h = reported P s _ h serial (is_run_by caller) _ is_unused (find (λ j. j.serial == serial) s.jobs) (run_active caller) (λ j e. moved_on j (Ended (end_cause end j.wish)) 3 (run_rank caller j.phase e) (omega arith) (omega arith) (omega arith) (λ c d w f. inl (finished_end end j.wish c d w f))) (λ j. refl) (λ j fit d e. cause_by (end_cause end j.wish) d e (end_range end j.wish fit.1)) refl
 call_comes P s caller (UseDone serial) h = use_done_on_found P s _ h caller serial (find (λ j. j.serial == serial) s.jobs) refl
 call_comes P s caller Tick h = h.notes
 
@@ -580,17 +634,17 @@ of_states P s call h = record {
   nothing = λ n. h.stays;
   notes = h.stays;
   hands = λ m j o i e f. h.moves j.serial j (Handed m) s.stopped i refl (moved_on j (Handed m) 1 (starting_rank j.phase e) (omega arith) (omega arith) (omega arith) (λ c d w f. absurd (cc))) refl;
-  reports = λ serial j phase stopped i e r n. h.moves serial j phase stopped.stops i e r n;
+  reports = λ serial j phase stopped i e r n fit. h.moves serial j phase stopped.stops i e r n;
   starts = λ q e. started_keeps P s q e h.supplies (h.starts q e);
-  enters = λ user c d due has. h.enters user c d due has;
-  alters = λ reply change place p a. h.alters change place a;
-  holds = λ reply held p a told. h.holds held a;
+  enters = λ user c d due has fit. h.enters user c d due has;
+  alters = λ reply change place p a fit. h.alters change place a;
+  holds = λ reply held p a told fit. h.holds held a;
   ends = λ reply change started stopped evokes power p e told. h.ends change started stopped.stops evokes.requests power e;
   uses = λ reply change p u. h.ends change s.started s.stopped s.evokes s.power u.ending;
   waits = λ place evokes is. h.lists s.stopped evokes.requests;
   prestarts = λ q d e can. prestart_keeps P s q d e can h.supplies (h.lists (without_stop q e.pgm s.stopped) s.evokes);
   kills = λ m j i k. h.ends (active_at j.serial with_kill) s.started s.stopped s.evokes s.power (kill_ends s j.serial);
-  makes = λ o c told. h.makes o c;
+  makes = λ o c told fit. h.makes o c;
 }
 
 -- the same for the state alone

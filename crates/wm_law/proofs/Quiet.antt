@@ -164,17 +164,17 @@ quiet_calls s call n names h quiet = record {
   nothing = λ x. h;
   notes = h;
   hands = λ m j o i e f. (let on = moved_on j (Handed m) 1 (starting_rank j.phase e) (omega arith) (omega arith) (omega arith) (λ c d w x. absurd (cc)) in moved_due s j.serial j (Handed m) n i refl on.onward refl h);
-  reports = λ serial j phase stopped i e r x. (let m = moved_due s serial j phase n i e r.onward x h in record { subsystems = m.subsystems; jobs = m.jobs });
+  reports = λ serial j phase stopped i e r x fit. (let m = moved_due s serial j phase n i e r.onward x h in record { subsystems = m.subsystems; jobs = m.jobs });
   starts = λ q e. (started_keeps IsQuietly s q e supplied_quietly (autos_made IsQuietly s q e (auto_quiet q) (record { names = begun_names s q e.fresh names; none = begun_due s q h }))).none;
-  enters = λ user c d due a. record { subsystems = h.subsystems; jobs = last_up s.clock s.started s.jobs (submitted_job s user c d due) (λ x. absurd (cc)) h.jobs };
-  alters = λ reply change place p a. altered_due s change place a h;
-  holds = λ reply held p a told. record { subsystems = h.subsystems; jobs = h.jobs };
+  enters = λ user c d due a fit. record { subsystems = h.subsystems; jobs = last_up s.clock s.started s.jobs (submitted_job s user c d due) (λ x. absurd (cc)) h.jobs };
+  alters = λ reply change place p a fit. altered_due s change place a h;
+  holds = λ reply held p a told fit. record { subsystems = h.subsystems; jobs = h.jobs };
   ends = λ reply change started stopped evokes power p e told. absurd (cc);
   uses = λ reply change p u. used_due s change u n h;
   waits = λ place evokes is. record { subsystems = h.subsystems; jobs = h.jobs };
   prestarts = λ q d e can. (prestart_keeps IsQuietly s q d e can supplied_quietly (record { names = names; none = record { subsystems = h.subsystems; jobs = h.jobs } })).none;
   kills = λ m j i k. kill_due s j.serial h;
-  makes = λ o c told. record { subsystems = h.subsystems; jobs = h.jobs };
+  makes = λ o c told fit. record { subsystems = h.subsystems; jobs = h.jobs };
 }
 
 pub calls_leave_none_due : CallsLeaveNoneDue

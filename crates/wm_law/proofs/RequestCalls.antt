@@ -13,7 +13,7 @@ use Rattle.wm_desc.specs.declared.description.Sbsd.{Sbsd}
 use Rattle.wm_desc.specs.declared.entry.PreEntry.{PreEntry}
 use Rattle.wm_desc.specs.Table.{object_named, same_qname}
 use Rattle.wm_law.specs.declared.call.Call.{Call}
-use Rattle.wm_law.specs.declared.call.Call.TheVariants.{Change, Hand, Started, StartFailed, Finished, UseDone, Tick}
+use Rattle.wm_law.specs.declared.call.Call.TheVariants.{Change}
 use Rattle.wm_law.specs.declared.command.Command.{Command}
 use Rattle.wm_law.specs.declared.command.Command.TheVariants as command
 use Rattle.wm_law.specs.declared.command.EndOption.{EndOption}
@@ -91,17 +91,17 @@ calm_calls s call none other = record {
   nothing = λ n. calm s;
   notes = calm s;
   hands = λ m j o i k f. record { evokes = refl; started = λ b i. inl i };
-  reports = λ serial j phase stopped i k r n. record { evokes = refl; started = λ b i. inl i };
+  reports = λ serial j phase stopped i k r n fit. record { evokes = refl; started = λ b i. inl i };
   starts = λ q can. calm_with s q (with_autos s q) (object_named q (with_autos s q).objects.sbsds) (calm_begun s q can);
-  enters = λ user c d due has. record { evokes = refl; started = λ b i. inl i };
-  alters = λ reply change place p a. record { evokes = refl; started = λ b i. inl i };
-  holds = λ reply held p a told. record { evokes = refl; started = λ b i. inl i };
+  enters = λ user c d due has fit. record { evokes = refl; started = λ b i. inl i };
+  alters = λ reply change place p a fit. record { evokes = refl; started = λ b i. inl i };
+  holds = λ reply held p a told fit. record { evokes = refl; started = λ b i. inl i };
   ends = λ reply change started stopped evokes power p e told. absurd (true≢false (sym told ∙ none));
   uses = λ reply change p u. record { evokes = refl; started = λ b i. inl i };
   waits = λ place evokes is. absurd (other is);
   prestarts = λ q d e can. calm_made s q e.pgm (room (restarted s q e.pgm) q d e (e.inljobs - count_available q e.pgm s.jobs)) (restarted s q e.pgm) (record { evokes = refl; started = λ b i. inl i });
   kills = λ m j i k. record { evokes = refl; started = λ b i. inl i };
-  makes = λ o c told. record { evokes = refl; started = λ b i. inl i };
+  makes = λ o c told fit. record { evokes = refl; started = λ b i. inl i };
 }
 
 -- what a call does to the requests of each entry, and that none comes to wait at an ending subsystem
@@ -381,44 +381,17 @@ module _ (s : State) (user : List ℕ) (c : Endpj) where
 
 -- each command
 commanded : (s : State) (caller : ℕ) (user : List ℕ) (c : Command) → IsCalled s (Change user c) (change s user c)
-commanded s caller user (command.Crtcls c) = others s caller (Change user (command.Crtcls c)) refl (λ is. (let e = is.2 in absurd (cc)))
-commanded s caller user (command.Crtjobq c) = others s caller (Change user (command.Crtjobq c)) refl (λ is. (let e = is.2 in absurd (cc)))
-commanded s caller user (command.Crtpgmref c) = others s caller (Change user (command.Crtpgmref c)) refl (λ is. (let e = is.2 in absurd (cc)))
-commanded s caller user (command.Crtjobd c) = others s caller (Change user (command.Crtjobd c)) refl (λ is. (let e = is.2 in absurd (cc)))
-commanded s caller user (command.Crtsbsd c) = others s caller (Change user (command.Crtsbsd c)) refl (λ is. (let e = is.2 in absurd (cc)))
-commanded s caller user (command.Addjobqe c) = others s caller (Change user (command.Addjobqe c)) refl (λ is. (let e = is.2 in absurd (cc)))
-commanded s caller user (command.Addrtge c) = others s caller (Change user (command.Addrtge c)) refl (λ is. (let e = is.2 in absurd (cc)))
-commanded s caller user (command.Addaje c) = others s caller (Change user (command.Addaje c)) refl (λ is. (let e = is.2 in absurd (cc)))
-commanded s caller user (command.Addpje c) = others s caller (Change user (command.Addpje c)) refl (λ is. (let e = is.2 in absurd (cc)))
-commanded s caller user (command.Rmvjobqe c) = others s caller (Change user (command.Rmvjobqe c)) refl (λ is. (let e = is.2 in absurd (cc)))
-commanded s caller user (command.Rmvrtge c) = others s caller (Change user (command.Rmvrtge c)) refl (λ is. (let e = is.2 in absurd (cc)))
-commanded s caller user (command.Rmvaje c) = others s caller (Change user (command.Rmvaje c)) refl (λ is. (let e = is.2 in absurd (cc)))
-commanded s caller user (command.Rmvpje c) = others s caller (Change user (command.Rmvpje c)) refl (λ is. (let e = is.2 in absurd (cc)))
-commanded s caller user (command.Strsbs c) = others s caller (Change user (command.Strsbs c)) refl (λ is. (let e = is.2 in absurd (cc)))
 commanded s caller user (command.Endsbs c) = sbs_found s user c (started_named s c.sbs) refl
-commanded s caller user (command.Sbmjob c) = others s caller (Change user (command.Sbmjob c)) refl (λ is. (let e = is.2 in absurd (cc)))
-commanded s caller user (command.Hldjob c) = others s caller (Change user (command.Hldjob c)) refl (λ is. (let e = is.2 in absurd (cc)))
-commanded s caller user (command.Rlsjob c) = others s caller (Change user (command.Rlsjob c)) refl (λ is. (let e = is.2 in absurd (cc)))
-commanded s caller user (command.Chgjob c) = others s caller (Change user (command.Chgjob c)) refl (λ is. (let e = is.2 in absurd (cc)))
 commanded s caller user (command.Endjob c) = job_called s user c
-commanded s caller user (command.Hldjobq c) = others s caller (Change user (command.Hldjobq c)) refl (λ is. (let e = is.2 in absurd (cc)))
-commanded s caller user (command.Rlsjobq c) = others s caller (Change user (command.Rlsjobq c)) refl (λ is. (let e = is.2 in absurd (cc)))
-commanded s caller user (command.Clrjobq c) = others s caller (Change user (command.Clrjobq c)) refl (λ is. (let e = is.2 in absurd (cc)))
-commanded s caller user (command.Strpj c) = others s caller (Change user (command.Strpj c)) refl (λ is. (let e = is.2 in absurd (cc)))
 commanded s caller user (command.Endpj c) = entry_in s user c (started_named s c.sbs) refl
 commanded s caller user (command.Evoke c) = (evoke_called s user c).0
-commanded s caller user (command.Enduse c) = others s caller (Change user (command.Enduse c)) refl (λ is. (let e = is.2 in absurd (cc)))
 commanded s caller user (command.Pwrdwnsys c) = down_called s user c
+commanded s caller user c = others s caller (Change user c) refl (λ is. (let e = is.2 in absurd (cc)))
 
 -- each call
 pub calls_do : (s : State) (caller : ℕ) (call : Call) → IsCalled s call (apply s caller call)
 calls_do s caller (Change user c) = commanded s caller user c
-calls_do s caller Hand = others s caller Hand refl (λ is. (let e = is.2 in absurd (cc)))
-calls_do s caller (Started serial) = others s caller (Started serial) refl (λ is. (let e = is.2 in absurd (cc)))
-calls_do s caller (StartFailed serial why) = others s caller (StartFailed serial why) refl (λ is. (let e = is.2 in absurd (cc)))
-calls_do s caller (Finished serial end) = others s caller (Finished serial end) refl (λ is. (let e = is.2 in absurd (cc)))
-calls_do s caller (UseDone serial) = others s caller (UseDone serial) refl (λ is. (let e = is.2 in absurd (cc)))
-calls_do s caller Tick = others s caller Tick refl (λ is. (let e = is.2 in absurd (cc)))
+calls_do s caller call = others s caller call refl (λ is. (let e = is.2 in absurd (cc)))
 
 pub calls_keep_requests : CallsKeepRequests
 calls_keep_requests s caller call sbs pgm = (calls_do s caller call).requests sbs pgm
@@ -430,17 +403,17 @@ answered_so s call = record {
   nothing = λ n place e. absurd (cc);
   notes = λ place e. absurd (cc);
   hands = λ m j o i k f place e. absurd (cc);
-  reports = λ serial j phase stopped i k r n place e. absurd (cc);
+  reports = λ serial j phase stopped i k r n fit place e. absurd (cc);
   starts = λ q can place e. absurd (cc);
-  enters = λ user c d due has place e. absurd (cc);
-  alters = λ reply change at p a place e. absurd (p.waits_not place e);
-  holds = λ reply held p a told place e. absurd (p.waits_not place e);
+  enters = λ user c d due has fit place e. absurd (cc);
+  alters = λ reply change at p a fit place e. absurd (p.waits_not place e);
+  holds = λ reply held p a told fit place e. absurd (p.waits_not place e);
   ends = λ reply change started stopped evokes power p a told place e. absurd (p.waits_not place e);
   uses = λ reply change p u place e. absurd (p.waits_not place e);
   waits = λ at evokes is place e. is;
   prestarts = λ q d e can place is. absurd (cc);
   kills = λ m j i k place e. absurd (cc);
-  makes = λ o c told place e. absurd (cc);
+  makes = λ o c told fit place e. absurd (cc);
 }
 
 pub answered_requests_wait : AnsweredRequestsWait

@@ -81,17 +81,17 @@ hands_over s call = record {
   nothing = λ n x e. absurd (cc);
   notes = λ x e. absurd (cc);
   hands = handed_one s;
-  reports = λ serial j phase stopped i k r n x e. absurd (cc);
+  reports = λ serial j phase stopped i k r n fit x e. absurd (cc);
   starts = λ q k x e. absurd (cc);
-  enters = λ user c d due has x e. absurd (cc);
-  alters = λ reply change place p a x e. absurd (none_told start_told reply p x e);
-  holds = λ reply held p a told x e. absurd (none_told start_told reply p x e);
+  enters = λ user c d due has fit x e. absurd (cc);
+  alters = λ reply change place p a fit x e. absurd (none_told start_told reply p x e);
+  holds = λ reply held p a told fit x e. absurd (none_told start_told reply p x e);
   ends = λ reply change started stopped evokes power p a told x e. absurd (none_told start_told reply p x e);
   uses = λ reply change p u x e. absurd (none_told start_told reply p x e);
   waits = λ place evokes is x e. absurd (cc);
   prestarts = λ q d y can x e. absurd (cc);
   kills = λ m j i k x e. absurd (cc);
-  makes = λ o c told x e. absurd (cc);
+  makes = λ o c told fit x e. absurd (cc);
 }
 
 pub serials_start_once : SerialsStartOnce
@@ -147,17 +147,17 @@ kills_over s call = record {
   nothing = λ n x e. absurd (cc);
   notes = λ x e. absurd (cc);
   hands = λ m j o i k f x e. absurd (no_kill s j o x e);
-  reports = λ serial j phase stopped i k r n x e. absurd (cc);
+  reports = λ serial j phase stopped i k r n fit x e. absurd (cc);
   starts = λ q k x e. absurd (cc);
-  enters = λ user c d due has x e. absurd (cc);
-  alters = λ reply change place p a x e. absurd (none_told kill_told reply p x e);
-  holds = λ reply held p a told x e. absurd (none_told kill_told reply p x e);
+  enters = λ user c d due has fit x e. absurd (cc);
+  alters = λ reply change place p a fit x e. absurd (none_told kill_told reply p x e);
+  holds = λ reply held p a told fit x e. absurd (none_told kill_told reply p x e);
   ends = λ reply change started stopped evokes power p a told x e. absurd (none_told kill_told reply p x e);
   uses = λ reply change p u x e. absurd (none_told kill_told reply p x e);
   waits = λ place evokes is x e. absurd (cc);
   prestarts = λ q d y can x e. absurd (cc);
   kills = λ m j i k. killed_one s m j i k;
-  makes = λ o c told x e. absurd (cc);
+  makes = λ o c told fit x e. absurd (cc);
 }
 
 wish_climbs : (j k : Job) → IsLater j k → wish_rank j.wish ≤ wish_rank k.wish

@@ -17,7 +17,7 @@ use Rattle.wm_desc.specs.Ranges.{limit_within, pre_in_range, within}
 use Rattle.wm_desc.specs.Sorted.{added, place_of, removed}
 use Rattle.wm_desc.specs.Table.{object_named, qname_cmp, same_qname}
 use Rattle.wm_law.specs.declared.call.Call.{Call}
-use Rattle.wm_law.specs.declared.call.Call.TheVariants.{Change, Hand, Started, StartFailed, Finished, UseDone, Tick}
+use Rattle.wm_law.specs.declared.call.Call.TheVariants.{Change}
 use Rattle.wm_law.specs.declared.call.Reply.TheVariants.{QueueHeld, QueueReleased}
 use Rattle.wm_law.specs.declared.command.Command.{Command}
 use Rattle.wm_law.specs.declared.command.Command.TheVariants as command
@@ -119,26 +119,9 @@ changed s caller user (command.Rmvaje c) fit h = made_usable s _ _ h (changed_us
 changed s caller user (command.Rmvpje c) fit h = made_usable s _ _ h (changed_usable c.sbsd (without_pre c.pgm) s.objects (λ x y i. inl (left_in (λ (e : PreEntry). not (same_qname e.pgm c.pgm)) x.pres y i)) h)
 changed s caller user (command.Hldjobq c) fit h = held s c.jobq h
 changed s caller user (command.Rlsjobq c) fit h = released s c.jobq h
-changed s caller user (command.Strsbs c) fit h = aside s caller (Change user (command.Strsbs c)) refl h
-changed s caller user (command.Endsbs c) fit h = aside s caller (Change user (command.Endsbs c)) refl h
-changed s caller user (command.Sbmjob c) fit h = aside s caller (Change user (command.Sbmjob c)) refl h
-changed s caller user (command.Hldjob c) fit h = aside s caller (Change user (command.Hldjob c)) refl h
-changed s caller user (command.Rlsjob c) fit h = aside s caller (Change user (command.Rlsjob c)) refl h
-changed s caller user (command.Chgjob c) fit h = aside s caller (Change user (command.Chgjob c)) refl h
-changed s caller user (command.Endjob c) fit h = aside s caller (Change user (command.Endjob c)) refl h
-changed s caller user (command.Clrjobq c) fit h = aside s caller (Change user (command.Clrjobq c)) refl h
-changed s caller user (command.Strpj c) fit h = aside s caller (Change user (command.Strpj c)) refl h
-changed s caller user (command.Endpj c) fit h = aside s caller (Change user (command.Endpj c)) refl h
-changed s caller user (command.Evoke c) fit h = aside s caller (Change user (command.Evoke c)) refl h
-changed s caller user (command.Enduse c) fit h = aside s caller (Change user (command.Enduse c)) refl h
-changed s caller user (command.Pwrdwnsys c) fit h = aside s caller (Change user (command.Pwrdwnsys c)) refl h
+changed s caller user c fit h = aside s caller (Change user c) refl h
 
 -- after a call within its ranges the entries let their jobs be used, where they did so before
 pub call_keeps_usable : (s : State) (caller : ℕ) (call : Call) → IsCall call → AreUsable s.objects → AreUsable (apply s caller call).state.objects
 call_keeps_usable s caller (Change user c) fit h = changed s caller user c fit h
-call_keeps_usable s caller Hand fit h = aside s caller Hand refl h
-call_keeps_usable s caller (Started serial) fit h = aside s caller (Started serial) refl h
-call_keeps_usable s caller (StartFailed serial why) fit h = aside s caller (StartFailed serial why) refl h
-call_keeps_usable s caller (Finished serial end) fit h = aside s caller (Finished serial end) refl h
-call_keeps_usable s caller (UseDone serial) fit h = aside s caller (UseDone serial) refl h
-call_keeps_usable s caller Tick fit h = aside s caller Tick refl h
+call_keeps_usable s caller call fit h = aside s caller call refl h

@@ -1,3 +1,4 @@
+pub mod Again
 pub mod Autos
 pub mod CallKinds
 pub mod Changing
@@ -27,6 +28,7 @@ pub mod Power
 pub mod Prestart
 pub mod Prestarting
 pub mod Queues
+pub mod Ranges
 pub mod Reports
 pub mod Requests
 pub mod Schedules

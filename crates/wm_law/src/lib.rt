@@ -10,7 +10,8 @@
 //! a command names); `Wishes` (whether an active job is to end, and when); `Choice` and `Launch` (which job starts, and what
 //! becomes of it); `Prestart` (how many prestart jobs are made, which gets a request, and what the end of a use comes to);
 //! `Jobs` (a change to one job); `Counts`; `Opening`; `Pending` (what a monitor asks); `Stepped` (what a call
-//! comes to); `Fit` (which calls the machine has, and their ranges) and `CallKinds` (which calls end jobs, and which change objects). What follows
+//! comes to); `Fit` (which calls the machine has, and their ranges), `Ranges` (which objects and ends keep theirs), `Again` (the command
+//! that makes a thing again) and `CallKinds` (which calls end jobs, and which change objects). What follows
 //! from them: `Laws` and `Kept`; `Limits` (no start passes a limit), `Order` (jobs are launched in their order), `Objects`
 //! (what holds of tables and subsystem descriptions), `Leaving` (which ending subsystems stay), `Handing` (which order Hand
 //! gives), `NextMoment` (what Pending tells), `Supplied` (what settling leaves of prestart entries' idle jobs, waiting requests

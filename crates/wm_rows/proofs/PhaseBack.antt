@@ -11,7 +11,8 @@ use Rattle.wm_rows.specs.declared.stored_job.StoredPhase.{StoredPhase}
 use Rattle.wm_rows.specs.declared.stored_job.StoredPhase.TheVariants.{Waiting, Active, Ended}
 use Rattle.wm_rows.specs.JobText.{field, held_word, cause_text, phase_text, state_fields}
 use Rattle.wm_rows.specs.Reading.{before, behind, value, rest, number_of, kept, same, exited, route_full, cause_of, phase_by, ended_of, phase_of, state_with, state_of}
-use Rattle.wm_rows.specs.Stored.{IsStored, IsCause, IsPhase}
+use Rattle.wm_law.specs.Ranges.{IsCause}
+use Rattle.wm_rows.specs.Stored.{IsStored, IsPhase}
 use Rattle.wm_rows.proofs.Digits.{number_back, kept_back, lacks_decimal}
 use Rattle.wm_rows.proofs.Seams.{Lacks, Lacks-append, before_first, behind_first, before_none, behind_none, field_value, field_rest}
 

@@ -4,7 +4,7 @@ use Rattle.wm_base.specs.declared.job.EndCause.{EndCause}
 use Rattle.wm_base.specs.EndCause.{end_cause_number}
 use Rattle.wm_rows.specs.declared.values.TheConstants.{PLAIN}
 use Rattle.wm_rows.specs.Reading.{plain_cause}
-use Rattle.wm_rows.specs.Stored.{IsCause}
+use Rattle.wm_law.specs.Ranges.{IsCause}
 
 one_of : (test : Bool) (cause : EndCause) (others : Option EndCause) → IsCause cause → IfSome others IsCause → IfSome (cond test (Some cause) others) IsCause
 one_of true cause others h g = h

@@ -1,4 +1,3 @@
-pub mod Again
 pub mod Fitting
 pub mod Places
 pub mod Rows

@@ -22,7 +22,7 @@ use Rattle.wm_rows.specs.declared.stored.Counter.{Counter}
 use Rattle.wm_rows.specs.declared.stored.Counter.TheVariants as counter
 use Rattle.wm_rows.specs.declared.stored.Stored.{Stored}
 use Rattle.wm_rows.specs.declared.stored.Stored.TheVariants as stored
-use Rattle.wm_rows.specs.Again.{crtcls_of, crtpgmref_of, crtjobq_of, crtjobd_of, crtsbsd_of, addjobqe_of, addrtge_of, addaje_of, addpje_of}
+use Rattle.wm_law.specs.Again.{crtcls_of, crtpgmref_of, crtjobq_of, crtjobd_of, crtsbsd_of, addjobqe_of, addrtge_of, addaje_of, addpje_of}
 use Rattle.wm_rows.specs.Places.{object_place, entry_place, numbered_place, place_of}
 
 -- a row that holds a command: its body is the command's canonical text

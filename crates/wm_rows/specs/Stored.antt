@@ -1,10 +1,9 @@
 -- What is stored of a job.
 use Rattle.std.specs.Prelude.{ℕ, ◌<◌, ◌≤◌, ◌^◌, Option, Some, None, List}
-use Rattle.wm_base.specs.declared.job.EndCause.{EndCause}
-use Rattle.wm_base.specs.declared.job.EndCause.TheVariants.{Completed, Exited, Killed, Endjob, Endsbs, Endpj, Maxuse, NoRoute, RouteFull, BadRequest, NoProgram, StartFailed, Cleared, EndedOnQueue, Restarted}
 use Rattle.wm_base.specs.declared.qname.QName.{QName}
 use Rattle.wm_base.specs.Name.{IsName}
 use Rattle.wm_base.specs.Text.{IsText}
+use Rattle.wm_law.specs.Ranges.{IsCause}
 use Rattle.wm_law.specs.declared.job.Job.{Job}
 use Rattle.wm_law.specs.declared.job.Phase.{Phase}
 use Rattle.wm_law.specs.declared.job.Phase.TheVariants as phase
@@ -48,24 +47,6 @@ IsQueue (Some q) = IsName q.lib × IsName q.name
 abbrev pub IsRequest : Option (List ℕ) → Type 0
 IsRequest None = Unit {0}
 IsRequest (Some text) = IsText text
-
--- an exit code is a byte, and the number of a routing entry 1 to 9999
-abbrev pub IsCause : EndCause → Type 0
-IsCause Completed = Unit {0}
-IsCause (Exited code) = code ≤ 255
-IsCause Killed = Unit {0}
-IsCause Endjob = Unit {0}
-IsCause Endsbs = Unit {0}
-IsCause Endpj = Unit {0}
-IsCause Maxuse = Unit {0}
-IsCause NoRoute = Unit {0}
-IsCause (RouteFull seq) = (1 ≤ seq) × (seq ≤ 9999)
-IsCause BadRequest = Unit {0}
-IsCause NoProgram = Unit {0}
-IsCause (StartFailed cause) = Unit {0}
-IsCause Cleared = Unit {0}
-IsCause EndedOnQueue = Unit {0}
-IsCause Restarted = Unit {0}
 
 abbrev pub IsPhase : StoredPhase → Type 0
 IsPhase Waiting = Unit {0}

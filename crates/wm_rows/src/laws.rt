@@ -1,5 +1,5 @@
 // What holds of the rows of objects and entries.
-ghost use Rattle.wm_rows.specs.Again.{IsMadeAgain};
+ghost use Rattle.wm_law.specs.Again.{IsMadeAgain};
 ghost use Rattle.wm_rows.specs.Rows.{HasItsRow};
 
 /// The command that a row holds makes the same description or entry again.

@@ -6,7 +6,7 @@
 //! key of what that command makes. A row is deleted by its `Place`. `job_row` gives the row of what is stored of a job, and
 //! `read_job` gives a stored job exactly where a row is the row of one, and that one.
 //!
-//! The definitions are in `specs/`. Of the rows of things: `Again` (the command that makes a thing again), `Places` (a thing's table
+//! The definitions are in `specs/`. Of the rows of things: `Places` (a thing's table
 //! and key), `Rows` (the row of a thing), `Tables` (all rows of the objects, the held queues and the counters), `Fitting` (which
 //! things are read). Of a job's row: `Stored` (what is stored of a job, and its ranges) and `JobText` (its text and its row).
 //! `Reading` and `Scan` are a second definition of that, by steps: where the values stand in a text that is taken for that of a

@@ -1,6 +1,7 @@
 // What values say.
 ghost use Rattle.std.specs.Prelude.{◌≡◌, IsTrue, IfSome, codes};
-ghost use Rattle.wm_rows.specs.Stored.{IsCause, IsPhase};
+ghost use Rattle.wm_law.specs.Ranges.{IsCause};
+ghost use Rattle.wm_rows.specs.Stored.{IsPhase};
 ghost use Rattle.wm_rows.specs.Reading.{within, push_digit, number_of, kept, same, qname_with, some_queue, jobq_of, kind_of, exited, route_full, plain_cause, cause_by, cause_of, phase_by, ended_of, phase_of};
 
 use crate::pieces::{before, behind};

@@ -70,17 +70,17 @@ calls_keep s call quiet = record {
   nothing = λ n. refl;
   notes = refl;
   hands = λ m j o i e f. refl;
-  reports = λ serial j phase stopped i e r n. refl;
+  reports = λ serial j phase stopped i e r n fit. refl;
   starts = λ q k. started_keeps (λ t. t.power ≡ s.power) s q k (supplied_power s) (autos_made (λ t. t.power ≡ s.power) s q k (λ t e d m p. p) refl);
-  enters = λ user c d due has. refl;
-  alters = λ reply change place p a. refl;
-  holds = λ reply held p a told. refl;
+  enters = λ user c d due has fit. refl;
+  alters = λ reply change place p a fit. refl;
+  holds = λ reply held p a told fit. refl;
   ends = λ reply change started stopped evokes power p e told. absurd (cc);
   uses = λ reply change p u. refl;
   waits = λ place evokes is. refl;
   prestarts = λ q d e can. prestart_keeps (λ t. t.power ≡ s.power) s q d e can (supplied_power s) refl;
   kills = λ m j i k. refl;
-  makes = λ o c told. refl;
+  makes = λ o c told fit. refl;
 }
 
 either : (P : Stepped → Type 0) (b : Bool) (t u : Stepped) → P t → P u → P (cond b t u)

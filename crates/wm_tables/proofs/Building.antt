@@ -41,7 +41,7 @@ use Rattle.wm_rows.specs.declared.stored_job.StoredPhase.TheVariants.{Waiting, A
 use Rattle.wm_tables.specs.Restart.{job_of, phase_of, with_stored, with_counter, HasOwnValues, IsOfKind, IsGoodJob, IsGoodCount, Takes, IsRead}
 use Rattle.wm_tables.proofs.Digits.{padded_less}
 use Rattle.wm_tables.proofs.Joining.{below_end, below_rise, distinct_end, given_end, increasing_end, none_taken, none_used}
-use Rattle.wm_tables.proofs.Made.{IsHeldNow, row_holds, row_makes}
+use Rattle.wm_tables.proofs.Made.{IsHeldNow, call_makes, row_holds}
 use Rattle.wm_tables.proofs.RowOrder.{IsAscending}
 use Rattle.wm_law.proofs.Numbers.{map_more}
 
@@ -333,7 +333,7 @@ counted_ahead s c n rows a j i r m = a j (subst (IsIn j) (jobs_same s c n) i) r 
 
 takes_on : (s : State) (row : Row) (rows : List Row) (u : State) → IsAscending (row ∷ rows) → IsOn s (row ∷ rows) → Takes s row u → IsOn u rows
 takes_on s row rows u up h (inl m) =
-    let made = row_makes s _ m.command row m.is_row m.accepted in
+    let made = call_makes s _ m.command m.accepted in
     subst (λ (t : State). IsOn t rows) (sym (m.makes ∙ made.2)) (record { built = made_built s made.0 made.1 h.built; ahead = rest_ahead s row rows h.ahead })
 takes_on s row rows u up h (inr (inl m)) =
     let held = row_holds s m.queue m.accepted in

@@ -16,8 +16,8 @@ use Rattle.wm_desc.specs.declared.entry.PreEntry.{PreEntry}
 use Rattle.wm_desc.specs.declared.entry.QueueEntry.{QueueEntry}
 use Rattle.wm_desc.specs.declared.entry.RouteEntry.{RouteEntry}
 use Rattle.wm_desc.specs.declared.objects.Objects.{Objects}
-use Rattle.wm_desc.specs.Objects.{with_auto, with_class, with_description, with_jobd, with_jobq, with_pre, with_program, with_queue, with_route, with_sbsd, without_auto, without_pre, without_queue, without_route}
-use Rattle.wm_desc.specs.Refusals.{auto_refusal, auto_tests, first_refusal, has_auto, has_pre, has_queue, object_refusal, pre_refusal, pre_tests, program_refusal, queue_refusal, queue_tests, remove_auto_refusal, remove_pre_refusal, remove_queue_refusal, remove_route_refusal, route_refusal, route_tests, seq_used}
+use Rattle.wm_desc.specs.Objects.{with_auto, with_description, with_pre, with_queue, with_route, without_auto, without_pre, without_queue, without_route}
+use Rattle.wm_desc.specs.Refusals.{auto_tests, first_refusal, has_auto, has_pre, has_queue, pre_tests, queue_tests, remove_auto_refusal, remove_pre_refusal, remove_queue_refusal, remove_route_refusal, route_tests, seq_used}
 use Rattle.wm_desc.specs.Sorted.{place_of}
 use Rattle.wm_desc.specs.Table.{name_of, object_named, qname_cmp, same_qname}
 use Rattle.wm_desc.proofs.Tables.{test_fails}
@@ -234,41 +234,19 @@ module _ (s : State) where
 
     -- each command
     command_answers : (user : List ℕ) (c : Command) → Answers (command_change (number_of s.objects c) c) (change s user c)
-    command_answers user (command.Crtcls c) =
-        made_answers (with_class c.cls (class_of c) s.objects) (object_refusal kind.Cls c.cls s.objects.classes) _
-        (λ n now. more_differs (class_row (c.cls, class_of c)) _ _ (class_more s.objects (class_row (c.cls, class_of c)) _ (more_mapped class_row s.objects.classes (place_of name_of qname_cmp c.cls s.objects.classes) (c.cls, class_of c))) now)
-    command_answers user (command.Crtpgmref c) =
-        made_answers (with_program c.pgm c.path s.objects) (program_refusal c.pgm s.objects.programs) _
-        (λ n now. more_differs (program_row (c.pgm, record { path = c.path })) _ _ (program_more s.objects (program_row (c.pgm, record { path = c.path })) _ (more_mapped program_row s.objects.programs (place_of name_of qname_cmp c.pgm s.objects.programs) (c.pgm, record { path = c.path }))) now)
-    command_answers user (command.Crtjobq c) =
-        made_answers (with_jobq c.jobq s.objects) (object_refusal kind.Jobq c.jobq s.objects.jobqs) _
-        (λ n now. more_differs (queue_row (c.jobq, record {})) _ _ (queue_more s.objects (queue_row (c.jobq, record {})) _ (more_mapped queue_row s.objects.jobqs (place_of name_of qname_cmp c.jobq s.objects.jobqs) (c.jobq, record {}))) now)
-    command_answers user (command.Crtjobd c) =
-        made_answers (with_jobd c.jobd (jobd_of c) s.objects) (object_refusal kind.Jobd c.jobd s.objects.jobds) _
-        (λ n now. more_differs (jobd_row (c.jobd, jobd_of c)) _ _ (jobd_more s.objects (jobd_row (c.jobd, jobd_of c)) _ (more_mapped jobd_row s.objects.jobds (place_of name_of qname_cmp c.jobd s.objects.jobds) (c.jobd, jobd_of c))) now)
-    command_answers user (command.Crtsbsd c) =
-        made_answers (with_sbsd c.sbsd c.maxjobs s.objects) (object_refusal kind.Sbsd c.sbsd s.objects.sbsds) _
-        (λ n now. more_differs _ _ _ (sbsd_more s.objects (place_of name_of qname_cmp c.sbsd s.objects.sbsds) c.sbsd c.maxjobs) now)
-    command_answers user (command.Addjobqe c) =
-        made_answers (with_description c.sbsd (with_queue (queue_entry_of c)) s.objects) (unless_in_use s c.sbsd (queue_refusal s.objects c.sbsd (queue_entry_of c))) _
-        (λ n now. (let m = described s c.sbsd (λ d. first_refusal (queue_tests s.objects (queue_entry_of c) d)) n in more_differs (queue_entry_row c.sbsd (queue_entry_of c)) _ _ (queue_in c.sbsd (queue_entry_of c) m.description m.named) now))
-    command_answers user (command.Addrtge c) =
-        made_answers (with_description c.sbsd (with_route (route_entry_of c)) s.objects) (unless_in_use s c.sbsd (route_refusal s.objects c.sbsd (route_entry_of c))) _
-        (λ n now. (let m = described s c.sbsd (λ d. first_refusal (route_tests s.objects (route_entry_of c) d)) n in more_differs (route_entry_row c.sbsd (route_entry_of c)) _ _ (route_in c.sbsd (route_entry_of c) m.description m.named) now))
-    command_answers user (command.Addaje c) =
-        made_answers (with_description c.sbsd (with_auto (auto_entry_of c)) s.objects) (unless_in_use s c.sbsd (auto_refusal s.objects c.sbsd (auto_entry_of c))) _
-        (λ n now. (let m = described s c.sbsd (λ d. first_refusal (auto_tests s.objects (auto_entry_of c) d)) n in more_differs (auto_entry_row c.sbsd (auto_entry_of c)) _ _ (auto_in c.sbsd (auto_entry_of c) m.description m.named) now))
-    command_answers user (command.Addpje c) =
-        made_answers (with_description c.sbsd (with_pre (pre_entry_of c)) s.objects) (unless_in_use s c.sbsd (pre_refusal s.objects c.sbsd (pre_entry_of c))) _
-        (λ n now. (let m = described s c.sbsd (λ d. first_refusal (pre_tests s.objects (pre_entry_of c) d)) n in more_differs (pre_entry_row c.sbsd (pre_entry_of c)) _ _ (pre_in c.sbsd (pre_entry_of c) m.description m.named) now))
-    command_answers user (command.Rmvjobqe c) =
-        made_answers (with_description c.sbsd (without_queue c.jobq) s.objects) (unless_in_use s c.sbsd (remove_queue_refusal s.objects c.sbsd c.jobq)) _ (λ n now. queue_out c.sbsd c.jobq n)
-    command_answers user (command.Rmvrtge c) =
-        made_answers (with_description c.sbsd (without_route c.seqnbr) s.objects) (unless_in_use s c.sbsd (remove_route_refusal s.objects c.sbsd c.seqnbr)) _ (λ n now. route_out c.sbsd c.seqnbr n)
-    command_answers user (command.Rmvaje c) =
-        made_answers (with_description c.sbsd (without_auto c.job) s.objects) (unless_in_use s c.sbsd (remove_auto_refusal s.objects c.sbsd c.job)) _ (λ n now. auto_out c.sbsd c.job n)
-    command_answers user (command.Rmvpje c) =
-        made_answers (with_description c.sbsd (without_pre c.pgm) s.objects) (unless_in_use s c.sbsd (remove_pre_refusal s.objects c.sbsd c.pgm)) _ (λ n now. pre_out c.sbsd c.pgm n)
+    command_answers user (command.Crtcls c) = made_answers _ _ _ (λ n now. more_differs (class_row (c.cls, class_of c)) _ _ (class_more s.objects (class_row (c.cls, class_of c)) _ (more_mapped class_row s.objects.classes (place_of name_of qname_cmp c.cls s.objects.classes) (c.cls, class_of c))) now)
+    command_answers user (command.Crtpgmref c) = made_answers _ _ _ (λ n now. more_differs (program_row (c.pgm, record { path = c.path })) _ _ (program_more s.objects (program_row (c.pgm, record { path = c.path })) _ (more_mapped program_row s.objects.programs (place_of name_of qname_cmp c.pgm s.objects.programs) (c.pgm, record { path = c.path }))) now)
+    command_answers user (command.Crtjobq c) = made_answers _ _ _ (λ n now. more_differs (queue_row (c.jobq, record {})) _ _ (queue_more s.objects (queue_row (c.jobq, record {})) _ (more_mapped queue_row s.objects.jobqs (place_of name_of qname_cmp c.jobq s.objects.jobqs) (c.jobq, record {}))) now)
+    command_answers user (command.Crtjobd c) = made_answers _ _ _ (λ n now. more_differs (jobd_row (c.jobd, jobd_of c)) _ _ (jobd_more s.objects (jobd_row (c.jobd, jobd_of c)) _ (more_mapped jobd_row s.objects.jobds (place_of name_of qname_cmp c.jobd s.objects.jobds) (c.jobd, jobd_of c))) now)
+    command_answers user (command.Crtsbsd c) = made_answers _ _ _ (λ n now. more_differs _ _ _ (sbsd_more s.objects (place_of name_of qname_cmp c.sbsd s.objects.sbsds) c.sbsd c.maxjobs) now)
+    command_answers user (command.Addjobqe c) = made_answers _ _ _ (λ n now. (let m = described s c.sbsd (λ d. first_refusal (queue_tests s.objects (queue_entry_of c) d)) n in more_differs (queue_entry_row c.sbsd (queue_entry_of c)) _ _ (queue_in c.sbsd (queue_entry_of c) m.description m.named) now))
+    command_answers user (command.Addrtge c) = made_answers _ _ _ (λ n now. (let m = described s c.sbsd (λ d. first_refusal (route_tests s.objects (route_entry_of c) d)) n in more_differs (route_entry_row c.sbsd (route_entry_of c)) _ _ (route_in c.sbsd (route_entry_of c) m.description m.named) now))
+    command_answers user (command.Addaje c) = made_answers _ _ _ (λ n now. (let m = described s c.sbsd (λ d. first_refusal (auto_tests s.objects (auto_entry_of c) d)) n in more_differs (auto_entry_row c.sbsd (auto_entry_of c)) _ _ (auto_in c.sbsd (auto_entry_of c) m.description m.named) now))
+    command_answers user (command.Addpje c) = made_answers _ _ _ (λ n now. (let m = described s c.sbsd (λ d. first_refusal (pre_tests s.objects (pre_entry_of c) d)) n in more_differs (pre_entry_row c.sbsd (pre_entry_of c)) _ _ (pre_in c.sbsd (pre_entry_of c) m.description m.named) now))
+    command_answers user (command.Rmvjobqe c) = made_answers _ _ _ (λ n now. queue_out c.sbsd c.jobq n)
+    command_answers user (command.Rmvrtge c) = made_answers _ _ _ (λ n now. route_out c.sbsd c.seqnbr n)
+    command_answers user (command.Rmvaje c) = made_answers _ _ _ (λ n now. auto_out c.sbsd c.job n)
+    command_answers user (command.Rmvpje c) = made_answers _ _ _ (λ n now. pre_out c.sbsd c.pgm n)
     command_answers user (command.Hldjobq c) = hold_answers c.jobq
     command_answers user (command.Rlsjobq c) = release_answers c.jobq
     command_answers user c = leaves_answers (change s user c) (call_is_aside s 0 (Change user c) refl)

@@ -20,7 +20,7 @@ use Rattle.wm_rows.specs.declared.stored_job.StoredJob.{StoredJob}
 use Rattle.wm_tables.specs.Restart.{job_of, with_counter, with_stored, IsGoodCount, IsRead, Takes}
 use Rattle.wm_tables.proofs.Ends.{counts}
 use Rattle.wm_tables.proofs.Gained.{Gains, gains_left, gains_mapped, gains_right, made_gains}
-use Rattle.wm_tables.proofs.Made.{row_holds, row_makes, tabs_rise}
+use Rattle.wm_tables.proofs.Made.{call_makes, row_holds, tabs_rise}
 use Rattle.wm_tables.proofs.RowOrder.{IsAscending}
 use Rattle.wm_tables.proofs.SameRows.{two_places}
 
@@ -80,7 +80,7 @@ count_left s counter.Serial n row late = record { old = λ r i. i; each = λ r i
 
 left : (s : State) (row : Row) (t : State) → Takes s row t → Leaves s row t
 left s row t (inl m) =
-    let made = row_makes s _ m.command row m.is_row m.accepted in
+    let made = call_makes s _ m.command m.accepted in
     let g = subst (λ (u : State). Gains (object_rows s.objects) (object_rows u.objects) row) made.2 (made_gains s _ m.command row m.is_row m.accepted) in
     subst (Leaves s row) (sym (m.makes ∙ made.2)) (objects_left s made.0 row g)
 left s row t (inr (inl m)) = subst (Leaves s row) (sym (m.makes ∙ (row_holds s m.queue m.accepted).is_with)) (held_left s m.queue row m.is_row)

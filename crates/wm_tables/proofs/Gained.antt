@@ -20,8 +20,8 @@ use Rattle.wm_desc.specs.declared.entry.PreEntry.{PreEntry}
 use Rattle.wm_desc.specs.declared.entry.QueueEntry.{QueueEntry}
 use Rattle.wm_desc.specs.declared.entry.RouteEntry.{RouteEntry}
 use Rattle.wm_desc.specs.declared.objects.Objects.{Objects}
-use Rattle.wm_desc.specs.Objects.{empty_sbsd, with_auto, with_class, with_description, with_jobd, with_jobq, with_pre, with_program, with_queue, with_route, with_sbsd}
-use Rattle.wm_desc.specs.Refusals.{auto_refusal, auto_tests, by_description, first_refusal, object_refusal, pre_refusal, pre_tests, program_refusal, queue_refusal, queue_tests, route_refusal, route_tests}
+use Rattle.wm_desc.specs.Objects.{empty_sbsd, with_auto, with_description, with_pre, with_queue, with_route}
+use Rattle.wm_desc.specs.Refusals.{auto_tests, by_description, first_refusal, pre_tests, queue_tests, route_tests}
 use Rattle.wm_desc.specs.Sorted.{place_of}
 use Rattle.wm_desc.specs.Table.{changed, name_of, object_named, qname_cmp, same_qname}
 use Rattle.wm_desc.proofs.Tables.{one_name}
@@ -352,30 +352,13 @@ gains_as xs ys a b e g = subst (λ (r : Row). Gains xs ys r) (Some-injective a b
 
 -- the objects gain the command's row
 pub made_gains : (s : State) (user : List ℕ) (c : Command) (row : Row) → command_row c ≡ Some row → (change s user c).reply ≡ Made → Gains (object_rows s.objects) (object_rows (change s user c).state.objects) row
-made_gains s user (command.Crtcls c) row e made =
-    accepted s (with_class c.cls (class_of c) s.objects) (object_refusal kind.Cls c.cls s.objects.classes) row (λ n. gains_as _ _ (class_row (c.cls, class_of c)) row e (class_gained s.objects (place_of name_of qname_cmp c.cls s.objects.classes) (c.cls, class_of c))) made
-made_gains s user (command.Crtpgmref c) row e made =
-    accepted s (with_program c.pgm c.path s.objects) (program_refusal c.pgm s.objects.programs) row (λ n. gains_as _ _ (program_row (c.pgm, record { path = c.path })) row e (program_gained s.objects (place_of name_of qname_cmp c.pgm s.objects.programs) (c.pgm, record { path = c.path }))) made
-made_gains s user (command.Crtjobq c) row e made =
-    accepted s (with_jobq c.jobq s.objects) (object_refusal kind.Jobq c.jobq s.objects.jobqs) row (λ n. gains_as _ _ (queue_row (c.jobq, record {})) row e (queue_gained s.objects (place_of name_of qname_cmp c.jobq s.objects.jobqs) (c.jobq, record {}))) made
-made_gains s user (command.Crtjobd c) row e made =
-    accepted s (with_jobd c.jobd (jobd_of c) s.objects) (object_refusal kind.Jobd c.jobd s.objects.jobds) row (λ n. gains_as _ _ (jobd_row (c.jobd, jobd_of c)) row e (jobd_gained s.objects (place_of name_of qname_cmp c.jobd s.objects.jobds) (c.jobd, jobd_of c))) made
-made_gains s user (command.Crtsbsd c) row e made =
-    accepted s (with_sbsd c.sbsd c.maxjobs s.objects) (object_refusal kind.Sbsd c.sbsd s.objects.sbsds) row (λ n. gains_as _ _ (sbsd_row (c.sbsd, empty_sbsd c.maxjobs)) row e (sbsd_gained s.objects (place_of name_of qname_cmp c.sbsd s.objects.sbsds) c.sbsd c.maxjobs)) made
-made_gains s user (command.Addjobqe c) row e made =
-    accepted s (with_description c.sbsd (with_queue (queue_entry_of c)) s.objects) (unless_in_use s c.sbsd (queue_refusal s.objects c.sbsd (queue_entry_of c))) row
-    (λ n. (let t = unrefused s c.sbsd (λ d. first_refusal (queue_tests s.objects (queue_entry_of c) d)) n in gains_as _ _ (queue_entry_row c.sbsd (queue_entry_of c)) row e (queue_entry_gained s.objects c.sbsd t.object t.stands t.named (queue_entry_of c))))
-    made
-made_gains s user (command.Addrtge c) row e made =
-    accepted s (with_description c.sbsd (with_route (route_entry_of c)) s.objects) (unless_in_use s c.sbsd (route_refusal s.objects c.sbsd (route_entry_of c))) row
-    (λ n. (let t = unrefused s c.sbsd (λ d. first_refusal (route_tests s.objects (route_entry_of c) d)) n in gains_as _ _ (route_entry_row c.sbsd (route_entry_of c)) row e (route_entry_gained s.objects c.sbsd t.object t.stands t.named (route_entry_of c))))
-    made
-made_gains s user (command.Addaje c) row e made =
-    accepted s (with_description c.sbsd (with_auto (auto_entry_of c)) s.objects) (unless_in_use s c.sbsd (auto_refusal s.objects c.sbsd (auto_entry_of c))) row
-    (λ n. (let t = unrefused s c.sbsd (λ d. first_refusal (auto_tests s.objects (auto_entry_of c) d)) n in gains_as _ _ (auto_entry_row c.sbsd (auto_entry_of c)) row e (auto_entry_gained s.objects c.sbsd t.object t.stands t.named (auto_entry_of c))))
-    made
-made_gains s user (command.Addpje c) row e made =
-    accepted s (with_description c.sbsd (with_pre (pre_entry_of c)) s.objects) (unless_in_use s c.sbsd (pre_refusal s.objects c.sbsd (pre_entry_of c))) row
-    (λ n. (let t = unrefused s c.sbsd (λ d. first_refusal (pre_tests s.objects (pre_entry_of c) d)) n in gains_as _ _ (pre_entry_row c.sbsd (pre_entry_of c)) row e (pre_entry_gained s.objects c.sbsd t.object t.stands t.named (pre_entry_of c))))
-    made
+made_gains s user (command.Crtcls c) row e made = accepted s _ _ row (λ n. gains_as _ _ (class_row (c.cls, class_of c)) row e (class_gained s.objects (place_of name_of qname_cmp c.cls s.objects.classes) (c.cls, class_of c))) made
+made_gains s user (command.Crtpgmref c) row e made = accepted s _ _ row (λ n. gains_as _ _ (program_row (c.pgm, record { path = c.path })) row e (program_gained s.objects (place_of name_of qname_cmp c.pgm s.objects.programs) (c.pgm, record { path = c.path }))) made
+made_gains s user (command.Crtjobq c) row e made = accepted s _ _ row (λ n. gains_as _ _ (queue_row (c.jobq, record {})) row e (queue_gained s.objects (place_of name_of qname_cmp c.jobq s.objects.jobqs) (c.jobq, record {}))) made
+made_gains s user (command.Crtjobd c) row e made = accepted s _ _ row (λ n. gains_as _ _ (jobd_row (c.jobd, jobd_of c)) row e (jobd_gained s.objects (place_of name_of qname_cmp c.jobd s.objects.jobds) (c.jobd, jobd_of c))) made
+made_gains s user (command.Crtsbsd c) row e made = accepted s _ _ row (λ n. gains_as _ _ (sbsd_row (c.sbsd, empty_sbsd c.maxjobs)) row e (sbsd_gained s.objects (place_of name_of qname_cmp c.sbsd s.objects.sbsds) c.sbsd c.maxjobs)) made
+made_gains s user (command.Addjobqe c) row e made = accepted s _ _ row (λ n. (let t = unrefused s c.sbsd (λ d. first_refusal (queue_tests s.objects (queue_entry_of c) d)) n in gains_as _ _ (queue_entry_row c.sbsd (queue_entry_of c)) row e (queue_entry_gained s.objects c.sbsd t.object t.stands t.named (queue_entry_of c)))) made
+made_gains s user (command.Addrtge c) row e made = accepted s _ _ row (λ n. (let t = unrefused s c.sbsd (λ d. first_refusal (route_tests s.objects (route_entry_of c) d)) n in gains_as _ _ (route_entry_row c.sbsd (route_entry_of c)) row e (route_entry_gained s.objects c.sbsd t.object t.stands t.named (route_entry_of c)))) made
+made_gains s user (command.Addaje c) row e made = accepted s _ _ row (λ n. (let t = unrefused s c.sbsd (λ d. first_refusal (auto_tests s.objects (auto_entry_of c) d)) n in gains_as _ _ (auto_entry_row c.sbsd (auto_entry_of c)) row e (auto_entry_gained s.objects c.sbsd t.object t.stands t.named (auto_entry_of c)))) made
+made_gains s user (command.Addpje c) row e made = accepted s _ _ row (λ n. (let t = unrefused s c.sbsd (λ d. first_refusal (pre_tests s.objects (pre_entry_of c) d)) n in gains_as _ _ (pre_entry_row c.sbsd (pre_entry_of c)) row e (pre_entry_gained s.objects c.sbsd t.object t.stands t.named (pre_entry_of c)))) made
 made_gains s user c row e made = absurd (cc)

@@ -17,10 +17,8 @@ pub mod StepObjects
 pub mod StepEntries
 pub mod StepRest
 pub mod Rebuilt
-pub mod RangedObjects
 pub mod RangedJobs
 pub mod RangedRestarts
-pub mod RangedMoments
 pub mod RangedLaunches
 pub mod PrestartRestarts
 pub mod RangedSupplies

@@ -1,5 +1,5 @@
 -- What one row makes, by its table.
-use Rattle.std.proofs.Common.{◌≡◌, ℕ, ◌≤◌, ◌<◌, Bool, true, false, cond, is_some, List, Option, Some, None, refl, ap, inl, inr, arith}
+use Rattle.std.proofs.Common.{◌≡◌, ℕ, ◌≤◌, ◌<◌, Bool, true, false, cond, is_some, List, Some, refl, ap, inl, inr, arith}
 use Rattle.std.specs.Ordering.{is_lt, nat_cmp, ordering_then}
 use Rattle.std.specs.Cmp.Lexicographic.{slice_cmp}
 use Rattle.std.specs.declared.cmp.Ordering.{Ordering}
@@ -8,7 +8,6 @@ use Rattle.std.proofs.lemmas.Bool.{cases_lt}
 use Rattle.std.proofs.lemmas.Bool.Decides.{nat_tests}
 use Rattle.wm_base.specs.declared.qname.QName.{QName}
 use Rattle.wm_base.specs.declared.refusal.Kind.TheVariants as kind
-use Rattle.wm_base.specs.declared.refusal.Refusal.{Refusal}
 use Rattle.wm_base.specs.declared.refusal.Refusal.TheVariants.{HeldAlready, NoObject}
 use Rattle.wm_base.proofs.Orderings.{Less-lt}
 use Rattle.wm_traits.specs.declared.row.Row.{Row}
@@ -16,37 +15,50 @@ use Rattle.wm_traits.specs.Rows.{is_before}
 use Rattle.wm_desc.specs.Table.{object_named}
 use Rattle.wm_desc.specs.declared.objects.Objects.{Objects}
 use Rattle.wm_law.specs.Choice.{is_held}
+use Rattle.wm_law.specs.Fit.{IsCall}
 use Rattle.wm_law.specs.Machine.{change}
-use Rattle.wm_law.specs.Making.{made_unless}
 use Rattle.wm_law.specs.Queues.{hold_queue, with_held_queue}
-use Rattle.wm_law.specs.Stepped.{refused}
+use Rattle.wm_law.specs.Ranges.{AreInRange}
+use Rattle.wm_law.specs.Stepped.{Stepped, refused}
+use Rattle.wm_law.specs.declared.call.Call.{Call}
+use Rattle.wm_law.specs.declared.call.Call.TheVariants.{Change}
 use Rattle.wm_law.specs.declared.call.Reply.TheVariants.{Made, QueueHeld}
 use Rattle.wm_law.specs.declared.command.Command.{Command}
 use Rattle.wm_law.specs.declared.command.Command.TheVariants as command
 use Rattle.wm_law.specs.declared.state.State.{State}
-use Rattle.wm_law.proofs.Objects.{IsObjectChange, class_made, queue_made, program_made, job_description_made, description_made, queue_added, route_added, auto_added, pre_added}
+use Rattle.wm_law.proofs.Moves.{HoldsAfterCalls, call_comes}
+use Rattle.wm_law.proofs.Objects.{IsObjectChange}
 use Rattle.wm_rows.specs.Rows.{command_row}
 
--- the objects change, and nothing else
-abbrev pub IsMaking : State → State → Type 0
-IsMaking s t = (o : Objects) × IsObjectChange s o × (t ≡ record s { objects = o })
+-- the objects change, and nothing else; where the values of the call keep their ranges, those of the objects do
+abbrev pub IsMaking : State → Call → State → Type 0
+IsMaking s call t = (o : Objects) × IsObjectChange s o × (t ≡ record s { objects = o }) × (IsCall call → AreInRange s.objects → AreInRange o)
 
-making : (s : State) (o : Objects) (r : Option Refusal) → (r ≡ None → IsObjectChange s o) → (made_unless s o r).reply ≡ Made → IsMaking s (made_unless s o r).state
-making s o None h e = (o, h refl, refl)
-making s o (Some x) h e = absurd (cc)
+abbrev WouldMake : State → Call → Stepped → Type 0
+WouldMake s call t = t.reply ≡ Made → IsMaking s call t.state
 
--- what a row's command makes, where it isn't refused
-pub row_makes : (s : State) (user : List ℕ) (c : Command) (row : Row) → command_row c ≡ Some row → (change s user c).reply ≡ Made → IsMaking s (change s user c).state
-row_makes s user (command.Crtcls c) row e made = making s _ _ (class_made s c) made
-row_makes s user (command.Crtjobq c) row e made = making s _ _ (queue_made s c) made
-row_makes s user (command.Crtpgmref c) row e made = making s _ _ (program_made s c) made
-row_makes s user (command.Crtjobd c) row e made = making s _ _ (job_description_made s c) made
-row_makes s user (command.Crtsbsd c) row e made = making s _ _ (description_made s c) made
-row_makes s user (command.Addjobqe c) row e made = making s _ _ (queue_added s c) made
-row_makes s user (command.Addrtge c) row e made = making s _ _ (route_added s c) made
-row_makes s user (command.Addaje c) row e made = making s _ _ (auto_added s c) made
-row_makes s user (command.Addpje c) row e made = making s _ _ (pre_added s c) made
-row_makes s user c row e made = absurd (cc)
+makes_by : (s : State) (call : Call) → HoldsAfterCalls (WouldMake s call) s call
+makes_by s call = record {
+  refuses = λ x e. absurd (cc);
+  nothing = λ n e. absurd (cc);
+  notes = λ e. absurd (cc);
+  hands = λ m j o i k f e. absurd (cc);
+  reports = λ serial j phase stopped i k r n fit e. absurd (cc);
+  starts = λ q can e. absurd (cc);
+  enters = λ user c d due has fit e. absurd (cc);
+  alters = λ reply change place p a fit e. absurd (p.makes_none e);
+  holds = λ reply held p a told fit e. absurd (p.makes_none e);
+  ends = λ reply change started stopped evokes power p a told e. absurd (p.makes_none e);
+  uses = λ reply change p u e. absurd (p.makes_none e);
+  waits = λ place evokes is e. absurd (cc);
+  prestarts = λ q d x can e. absurd (cc);
+  kills = λ m j i k e. absurd (cc);
+  makes = λ o c told fit e. (o, c, refl, fit);
+}
+
+-- what a command makes that says so
+pub call_makes : (s : State) (user : List ℕ) (c : Command) → (change s user c).reply ≡ Made → IsMaking s (Change user c) (change s user c).state
+call_makes s user c made = call_comes (WouldMake s (Change user c)) s 0 (Change user c) (makes_by s (Change user c)) made
 
 tab_is : (a b : Row) (n : ℕ) → Some a ≡ Some b → a.tab ≡ n → n ≤ 9 → b.tab ≤ 9
 tab_is a b n e f h = let same : a ≡ b = cc in let tab : a.tab ≡ b.tab = ap (λ (r : Row). r.tab) same in omega arith

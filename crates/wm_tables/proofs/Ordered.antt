@@ -53,17 +53,17 @@ tells s call = record {
   nothing = λ n x e. absurd (cc);
   notes = λ x e. absurd (cc);
   hands = λ m j o i h f x e. handed s m j o i h f x (cc);
-  reports = λ serial j phase stopped i k r n x e. absurd (cc);
+  reports = λ serial j phase stopped i k r n fit x e. absurd (cc);
   starts = λ q k x e. absurd (cc);
-  enters = λ user c d due has x e. absurd (cc);
-  alters = λ reply change place p a x e. absurd (none_told reply p x e);
-  holds = λ reply held p a told x e. absurd (none_told reply p x e);
+  enters = λ user c d due has fit x e. absurd (cc);
+  alters = λ reply change place p a fit x e. absurd (none_told reply p x e);
+  holds = λ reply held p a told fit x e. absurd (none_told reply p x e);
   ends = λ reply change started stopped evokes power p a told x e. absurd (none_told reply p x e);
   uses = λ reply change p u x e. absurd (none_told reply p x e);
   waits = λ place evokes is x e. absurd (cc);
   prestarts = λ q d n can x e. absurd (cc);
   kills = λ m j i k x e. absurd (cc);
-  makes = λ o c told x e. absurd (cc);
+  makes = λ o c told fit x e. absurd (cc);
 }
 
 step_tells : (s : State) (caller : ℕ) (call : Call) (moment x : ℕ) → told start_told (step s caller call moment).reply ≡ Some x → IsStartingIn s x

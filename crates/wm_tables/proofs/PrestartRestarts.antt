@@ -1,5 +1,5 @@
 -- A run opens with a state that is sound of prestart jobs: none is active, none has uses or a request, and each entry lets its jobs be used.
-use Rattle.std.proofs.Common.{◌≡◌, ℕ, zero, suc, ◌<◌, ◌≤◌, ℤ, true, false, List, [], ◌∷◌, length, get_or, refl, sym, ap, subst, inl, inr, arith}
+use Rattle.std.proofs.Common.{◌≡◌, ℕ, zero, suc, ◌<◌, ◌≤◌, true, false, List, [], ◌∷◌, length, get_or, refl, sym, ap, subst, inl, inr, arith}
 use Rattle.std.proofs.lemmas.Bool.{and_parts}
 use Rattle.std.proofs.lemmas.Bool.Decides.{nat_tests}
 use Rattle.wm_base.specs.declared.limit.Limit.{Limit}
@@ -10,7 +10,6 @@ use Rattle.wm_desc.specs.declared.description.Sbsd.{Sbsd}
 use Rattle.wm_desc.specs.declared.entry.PreEntry.{PreEntry}
 use Rattle.wm_desc.specs.declared.objects.Objects.{Objects}
 use Rattle.wm_desc.specs.Ranges.{limit_within, pre_in_range, within}
-use Rattle.wm_traits.specs.declared.row.Row.{Row}
 use Rattle.wm_law.specs.Counts.{is_active}
 use Rattle.wm_law.specs.Laws.{IsIn}
 use Rattle.wm_law.specs.Maxuse.{AreUsable, IsWithinMaxuse}
@@ -25,7 +24,7 @@ use Rattle.wm_law.proofs.Maxuse.{opening_is_within_maxuse}
 use Rattle.wm_law.proofs.Requests.{idle_runs, running_now}
 use Rattle.wm_law.proofs.SoundPrestart.{opening_is_prestart_sound}
 use Rattle.wm_tables.specs.Laws.{RestartIsPrestartSound, RestartIsWithinMaxuse}
-use Rattle.wm_tables.specs.Ranges.{AreInRange}
+use Rattle.wm_law.specs.Ranges.{AreInRange}
 use Rattle.wm_tables.proofs.Building.{IsAnew, IsBuilt, built}
 use Rattle.wm_tables.proofs.RangedLaunches.{described_in}
 use Rattle.wm_tables.proofs.RangedRestarts.{restart_is_in_range}

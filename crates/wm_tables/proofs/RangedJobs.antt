@@ -1,22 +1,18 @@
 -- What keeps the ranges of jobs.
-use Rattle.std.proofs.Common.{◌≡◌, ◌++◌, List, [], ◌∷◌, map, Option, Some, None, refl, sym, subst, inl, inr}
+use Rattle.std.proofs.Common.{◌≡◌, ◌++◌, List, [], ◌∷◌, map, sym, subst, inl, inr}
 use Rattle.std.specs.Option.{IsSome}
 use Rattle.wm_base.specs.declared.qname.QName.{QName}
-use Rattle.wm_base.specs.declared.refusal.Refusal.{Refusal}
 use Rattle.wm_desc.specs.Table.{object_named}
 use Rattle.wm_desc.specs.declared.objects.Objects.{Objects}
 use Rattle.wm_law.specs.Laws.{IsIn}
-use Rattle.wm_law.specs.Making.{made_unless}
 use Rattle.wm_law.specs.declared.job.Job.{Job}
 use Rattle.wm_law.specs.declared.job.JobKind.{JobKind}
 use Rattle.wm_law.specs.declared.job.JobKind.TheVariants.{Bch, Asj, Pj}
-use Rattle.wm_law.specs.declared.state.State.{State}
 use Rattle.wm_law.proofs.Members.{of_last, of_mapped}
-use Rattle.wm_law.proofs.Objects.{IsObjectChange}
 use Rattle.wm_rows.specs.Stored.{IsPhase, IsStored, stored_of, stored_phase}
 use Rattle.wm_rows.specs.declared.stored_job.StoredJob.{StoredJob}
 use Rattle.wm_rows.specs.declared.stored_job.StoredPhase.{StoredPhase}
-use Rattle.wm_tables.specs.Ranges.{AreInRange, IsInRange, IsJobInRange}
+use Rattle.wm_tables.specs.Ranges.{IsJobInRange}
 use Rattle.wm_tables.specs.Restart.{HasLengths, IsOfKind}
 
 -- each job keeps its ranges
@@ -69,8 +65,3 @@ phased o j k e h r =
       lengths = subst HasLengths (sym e) (record { rtgdta = r.lengths.rtgdta; rqsdta = r.lengths.rqsdta });
       kind = subst (λ (x : StoredJob). IsOfKind o x.kind x) (sym e) (phased_kind o j.kind (stored_of j) (stored_phase k.phase) r.kind);
     }
-
--- what is made unless it is refused keeps a state in range
-pub made_range : (s : State) (o : Objects) (r : Option Refusal) → (r ≡ None → AreInRange o) → (r ≡ None → IsObjectChange s o) → IsInRange s → IsInRange (made_unless s o r).state
-made_range s o None h c r = record { objects = h refl; held = r.held; jobs = jobs_still s.objects o s.jobs (c refl).jobqs r.jobs; clock = r.clock }
-made_range s o (Some x) h c r = record { objects = r.objects; held = r.held; jobs = r.jobs; clock = r.clock }

@@ -24,6 +24,7 @@ use Rattle.wm_law.specs.Fit.{IsBetween}
 use Rattle.wm_law.specs.Jobs.{changed_at}
 use Rattle.wm_law.specs.Launch.{as_auto, as_launched, called_program, from_queue, is_match, launch, with_routed, routed_from_queue, routed_in, starts_unless, routed_through, missing_program, program_fault, route}
 use Rattle.wm_law.specs.Laws.{IsIn}
+use Rattle.wm_law.specs.Ranges.{AreInRange}
 use Rattle.wm_law.specs.Submitting.{numbers_end, serials_end}
 use Rattle.wm_law.specs.Subsystems.{begun, with_autos}
 use Rattle.wm_law.specs.declared.choice.Candidate.{Candidate}
@@ -32,7 +33,7 @@ use Rattle.wm_law.specs.declared.launch.Launched.{Launched}
 use Rattle.wm_law.specs.declared.state.State.{State}
 use Rattle.wm_law.proofs.Members.{found_among}
 use Rattle.wm_rows.specs.Stored.{IsPhase, IsRequest, stored_phase}
-use Rattle.wm_tables.specs.Ranges.{AreInRange, IsInRange, IsJobInRange}
+use Rattle.wm_tables.specs.Ranges.{IsInRange, IsJobInRange}
 use Rattle.wm_tables.proofs.RangedJobs.{jobs_last, jobs_mapped, phased}
 use Rattle.wm_law.proofs.Moves.{IsStartable, enough}
 

@@ -1,5 +1,5 @@
 -- The opening state and that of a restart keep their ranges.
-use Rattle.std.proofs.Common.{◌≡◌, ℤ, ℕ, false, List, [], ◌∷◌, Some, refl, sym, subst, ◌∙◌, inl, inr, arith}
+use Rattle.std.proofs.Common.{◌≡◌, ℤ, ℕ, false, List, [], ◌∷◌, refl, sym, subst, ◌∙◌, inl, inr, arith}
 use Rattle.wm_base.specs.declared.job.Class.{Class}
 use Rattle.wm_base.specs.declared.qname.QName.{QName}
 use Rattle.wm_desc.specs.declared.description.Jobd.{Jobd}
@@ -14,17 +14,15 @@ use Rattle.wm_desc.specs.Table.{is_qcmd, qname_cmp}
 use Rattle.wm_traits.specs.declared.row.Row.{Row}
 use Rattle.wm_law.specs.Fit.{IsCommand, IsQName}
 use Rattle.wm_law.specs.Laws.{IsIn}
-use Rattle.wm_law.specs.Machine.{change}
+use Rattle.wm_law.specs.Ranges.{AreInRange, HasEntriesInRange}
 use Rattle.wm_law.specs.Opening.{empty, opening_commands}
 use Rattle.wm_law.specs.Queues.{own_name, with_held_queue}
 use Rattle.wm_law.specs.declared.command.Command.{Command}
 use Rattle.wm_law.specs.declared.command.Command.TheVariants as command
 use Rattle.wm_law.specs.declared.state.State.{State}
 use Rattle.wm_law.proofs.InOrder.{in_inserted}
-use Rattle.wm_law.proofs.Objects.{class_made, queue_made, program_made, job_description_made, description_made, queue_added, route_added, auto_added, pre_added}
 use Rattle.wm_law.proofs.Opened.{batch_sbsd, commands_fit, opened, opening_is, opening_objects}
-use Rattle.wm_rows.specs.Again.{crtcls_of, crtpgmref_of, crtjobq_of, crtjobd_of, crtsbsd_of, addjobqe_of, addrtge_of}
-use Rattle.wm_rows.specs.Rows.{command_row}
+use Rattle.wm_law.specs.Again.{crtcls_of, crtpgmref_of, crtjobq_of, crtjobd_of, crtsbsd_of, addjobqe_of, addrtge_of}
 use Rattle.wm_rows.specs.declared.stored.Counter.{Counter}
 use Rattle.wm_rows.specs.declared.stored.Counter.TheVariants as counter
 use Rattle.wm_rows.specs.Stored.{IsPhase, stored_phase}
@@ -32,11 +30,10 @@ use Rattle.wm_rows.specs.declared.stored_job.StoredJob.{StoredJob}
 use Rattle.wm_rows.specs.declared.stored_job.StoredPhase.{StoredPhase}
 use Rattle.wm_rows.specs.declared.stored_job.StoredPhase.TheVariants.{Waiting, Active, Ended}
 use Rattle.wm_tables.specs.Laws.{OpeningIsInRange, RestartIsInRange}
-use Rattle.wm_tables.specs.Ranges.{AreInRange, HasEntriesInRange, IsInRange, IsJobInRange}
+use Rattle.wm_tables.specs.Ranges.{IsInRange, IsJobInRange}
 use Rattle.wm_tables.specs.Restart.{job_of, phase_of, with_counter, with_stored, IsGoodJob, IsRead, Takes}
-use Rattle.wm_tables.proofs.Made.{row_holds}
-use Rattle.wm_tables.proofs.RangedJobs.{jobs_last, made_range, phased_kind, phased_stored}
-use Rattle.wm_tables.proofs.RangedObjects.{class_range, program_range, queue_range, jobd_range, sbsd_range, queue_entry_range, route_entry_range, auto_entry_range, pre_entry_range}
+use Rattle.wm_tables.proofs.Made.{call_makes, row_holds}
+use Rattle.wm_tables.proofs.RangedJobs.{jobs_last, jobs_still, phased_kind, phased_stored}
 use Rattle.wm_law.proofs.Members.{All-in}
 
 fits : (c : Command) → IsIn c opening_commands → IsCommand c
@@ -83,21 +80,8 @@ empty_range offset = record {
   clock = omega arith;
 }
 
--- a row's command keeps the ranges
-command_range : (s : State) (user : List ℕ) (c : Command) (row : Row) → IsCommand c → command_row c ≡ Some row → IsInRange s → IsInRange (change s user c).state
-command_range s user (command.Crtcls c) row h e r = made_range s _ _ (λ n. class_range s.objects r.objects c h) (class_made s c) r
-command_range s user (command.Crtpgmref c) row h e r = made_range s _ _ (λ n. program_range s.objects r.objects c h n) (program_made s c) r
-command_range s user (command.Crtjobq c) row h e r = made_range s _ _ (λ n. queue_range s.objects r.objects c h) (queue_made s c) r
-command_range s user (command.Crtjobd c) row h e r = made_range s _ _ (λ n. jobd_range s.objects r.objects c h) (job_description_made s c) r
-command_range s user (command.Crtsbsd c) row h e r = made_range s _ _ (λ n. sbsd_range s.objects r.objects c h) (description_made s c) r
-command_range s user (command.Addjobqe c) row h e r = made_range s _ _ (λ n. queue_entry_range s.objects r.objects c h) (queue_added s c) r
-command_range s user (command.Addrtge c) row h e r = made_range s _ _ (λ n. route_entry_range s.objects r.objects c h) (route_added s c) r
-command_range s user (command.Addaje c) row h e r = made_range s _ _ (λ n. auto_entry_range s.objects r.objects c h) (auto_added s c) r
-command_range s user (command.Addpje c) row h e r = made_range s _ _ (λ n. pre_entry_range s.objects r.objects c h) (pre_added s c) r
-command_range s user c row h e r = absurd (cc)
-
--- a queue that becomes held keeps them
-pub held_range : (s : State) (q : QName) → IsQName q → IsInRange s → IsInRange (with_held_queue s q)
+-- a queue that becomes held keeps the ranges
+held_range : (s : State) (q : QName) → IsQName q → IsInRange s → IsInRange (with_held_queue s q)
 held_range s q h r = record {
   objects = r.objects;
   held = λ p i. (elim (in_inserted s.held (place_of own_name qname_cmp q s.held) q p i) as (λ _. IsQName p) [ inl same ↦ subst IsQName (sym same) h | inr was ↦ r.held p was ]);
@@ -129,7 +113,9 @@ counter_range s counter.Schema n r = r
 counter_range s counter.Serial n r = record { objects = r.objects; held = r.held; jobs = r.jobs; clock = r.clock }
 
 takes_range : (s : State) (row : Row) (u : State) → Takes s row u → IsInRange s → IsInRange u
-takes_range s row u (inl m) r = subst IsInRange (sym m.makes) (command_range s _ m.command row m.fit m.is_row r)
+takes_range s row u (inl m) r =
+    let made = call_makes s _ m.command m.accepted in
+    subst IsInRange (sym (m.makes ∙ made.2)) (record { objects = made.3 (refl, m.fit) r.objects; held = r.held; jobs = jobs_still s.objects made.0 s.jobs made.1.jobqs r.jobs; clock = r.clock })
 takes_range s row u (inr (inl m)) r = subst IsInRange (sym (m.makes ∙ (row_holds s m.queue m.accepted).is_with)) (held_range s m.queue m.fit r)
 takes_range s row u (inr (inr (inl m))) r = subst IsInRange (sym m.makes) (stored_range s m.job m.good r)
 takes_range s row u (inr (inr (inr m))) r = subst IsInRange (sym m.makes) (counter_range s m.counter m.count r)

@@ -1,46 +1,32 @@
 -- Wishes and requests keep the ranges of jobs, and so do prestart jobs that are made.
-use Rattle.std.proofs.Common.{◌≡◌, ◌≤◌, ◌<◌, ℕ, cond, nat_le, is_some, min, not, nat_lt, length, ◌-◌, List, Option, Some, None, refl, sym, ap, subst, inl, inr, arith}
-use Rattle.std.proofs.lemmas.Bool.{not-false}
+use Rattle.std.proofs.Common.{◌≡◌, ◌≤◌, ◌<◌, ℕ, cond, nat_le, min, ◌-◌, List, Some, refl, sym, ap, subst, inl, inr, arith}
 use Rattle.std.proofs.lemmas.Bool.Decides.{nat_tests}
 use Rattle.wm_base.specs.Name.{IsName}
 use Rattle.wm_base.specs.declared.qname.QName.{QName}
-use Rattle.wm_base.specs.declared.refusal.Refusal.{Refusal}
-use Rattle.wm_base.proofs.Tests.{unrefused}
 use Rattle.wm_desc.specs.Table.{object_named}
 use Rattle.wm_desc.specs.declared.description.Sbsd.{Sbsd}
 use Rattle.wm_desc.specs.declared.entry.PreEntry.{PreEntry}
-use Rattle.wm_law.specs.Autos.{autos_of}
 use Rattle.wm_law.specs.Counts.{count_from_pre, count_in_sbs}
 use Rattle.wm_law.specs.Jobs.{active_at}
 use Rattle.wm_law.specs.Laws.{IsIn}
-use Rattle.wm_law.specs.Power.{is_on}
+use Rattle.wm_law.specs.Ranges.{AreInRange}
 use Rattle.wm_law.specs.Prestart.{left_by, new_pre_job, with_evoke}
 use Rattle.wm_law.specs.Submitting.{numbers_end, numbers_left, serials_end}
-use Rattle.wm_law.specs.Subsystems.{is_started, max_started, start_refusal, start_unless}
-use Rattle.wm_law.specs.Wishes.{why_cause}
 use Rattle.wm_law.specs.declared.job.Job.{Job}
 use Rattle.wm_law.specs.declared.job.Phase.{Phase}
-use Rattle.wm_law.specs.declared.job.Why.{Why}
-use Rattle.wm_law.specs.declared.job.Why.TheVariants as why
 use Rattle.wm_law.specs.declared.state.Evoke.{Evoke}
 use Rattle.wm_law.specs.declared.state.Power.{Power}
 use Rattle.wm_law.specs.declared.state.Sbs.{Sbs}
 use Rattle.wm_law.specs.declared.state.State.{State}
 use Rattle.wm_law.specs.declared.state.Stop.{Stop}
 use Rattle.wm_law.proofs.Endings.{IsPhaseAfter, IsWishing, using, wished}
-use Rattle.wm_law.proofs.Moves.{IsStartable, started_keeps}
+use Rattle.wm_law.proofs.Moves.{why_range}
 use Rattle.wm_law.proofs.Rounds.{left, left-few}
 use Rattle.wm_law.proofs.Supplies.{IsSuppliable, IsSupplied, number_left, serial_left}
-use Rattle.wm_rows.specs.Stored.{IsCause, IsPhase, stored_of, stored_phase}
-use Rattle.wm_tables.specs.Ranges.{AreInRange, IsInRange, IsJobInRange}
+use Rattle.wm_rows.specs.Stored.{IsPhase, stored_of, stored_phase}
+use Rattle.wm_tables.specs.Ranges.{IsInRange, IsJobInRange}
 use Rattle.wm_tables.proofs.RangedJobs.{jobs_last, jobs_mapped, phased}
-use Rattle.wm_tables.proofs.RangedLaunches.{autos_range, described_in}
-
-pub why_range : (w : Why) → IsCause (why_cause w)
-why_range why.Endjob = tt
-why_range why.Endsbs = tt
-why_range why.Endpj = tt
-why_range why.Maxuse = tt
+use Rattle.wm_tables.proofs.RangedLaunches.{described_in}
 
 after_range : (p q : Phase) → IsPhaseAfter p q → IsPhase (stored_phase p) → IsPhase (stored_phase q)
 after_range p q (inl e) h = subst (λ (x : Phase). IsPhase (stored_phase x)) (sym e) h
@@ -107,21 +93,3 @@ supplies_range = record {
   };
   assigns = λ t q pgm job evokes can r. wished_range t (active_at job.serial with_evoke) t.started t.stopped evokes t.power (using job.serial) r;
 }
-
--- a subsystem that starts
-pub started_range : (s : State) (q : QName) (o : Option Refusal) → 1 ≤ s.next_number → start_refusal s q ≡ o → IsInRange s → IsInRange (start_unless s q o).state
-started_range s q (Some x) least e r = r
-started_range s q None least e r =
-    let on = unrefused (not (is_on s.power)) _ _ e in
-    let there = unrefused (not (is_some (object_named q s.objects.sbsds))) _ _ on.1 in
-    let fresh = unrefused (is_started s q.name) _ _ there.1 in
-    let room = unrefused (nat_le max_started (length s.started)) _ _ fresh.1 in
-    let numbers = unrefused (nat_lt (numbers_left s) (length (autos_of s q))) _ _ room.1 in
-    let can : IsStartable s q = record {
-      on = not-false (is_on s.power) on.0;
-      there = not-false (is_some (object_named q s.objects.sbsds)) there.0;
-      fresh = fresh.0;
-      room = room.0;
-      numbers = numbers.0;
-    } in
-    started_keeps IsInRange s q can supplies_range (autos_range s q can least r)

@@ -32,7 +32,7 @@ use Rattle.wm_law.specs.declared.command.Command.TheVariants as command
 use Rattle.wm_law.specs.declared.state.State.{State}
 use Rattle.wm_law.proofs.Members.{in_mapped, left_in, left_same}
 use Rattle.wm_law.proofs.Named.{is_named, own_name}
-use Rattle.wm_rows.specs.Again.{addjobqe_of, addrtge_of, addaje_of, addpje_of}
+use Rattle.wm_law.specs.Again.{addjobqe_of, addrtge_of, addaje_of, addpje_of}
 use Rattle.wm_rows.specs.Rows.{class_row, program_row, queue_row, jobd_row, sbsd_row, queue_entry_row, route_entry_row, auto_entry_row, pre_entry_row}
 use Rattle.wm_tables.specs.Ranges.{IsInRange}
 use Rattle.wm_tables.specs.Restart.{Makes}

@@ -38,8 +38,8 @@ use Rattle.wm_law.specs.declared.command.Crtpgmref.{Crtpgmref}
 use Rattle.wm_law.specs.declared.command.Crtsbsd.{Crtsbsd}
 use Rattle.wm_law.proofs.InOrder.{in_inserted}
 use Rattle.wm_law.proofs.Members.{left_in, of_mapped}
-use Rattle.wm_rows.specs.Again.{crtcls_of, crtpgmref_of, crtjobq_of, crtjobd_of, crtsbsd_of, addjobqe_of, addrtge_of, addaje_of, addpje_of}
-use Rattle.wm_tables.specs.Ranges.{AreInRange, HasEntriesInRange}
+use Rattle.wm_law.specs.Again.{crtcls_of, crtpgmref_of, crtjobq_of, crtjobd_of, crtsbsd_of, addjobqe_of, addrtge_of, addaje_of, addpje_of}
+use Rattle.wm_law.specs.Ranges.{AreInRange, HasEntriesInRange}
 
 -- what holds of each element and of one more
 each_more : {X : Type 0} (P : X → Type 0) (xs : List X) (n : ℕ) (x : X) → ((y : X) → IsIn y xs → P y) → P x → (y : X) → IsIn y (insert xs n x) → P y
