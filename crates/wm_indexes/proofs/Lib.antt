@@ -4,9 +4,7 @@ pub mod InsideLemmas
 pub mod JobLemmas
 pub mod NameLemmas
 pub mod NameRows
-pub mod Among
-pub mod Parts
-pub mod ActiveSet
+pub mod KillRows
 pub mod TurnLemmas
 pub mod TurnOrder
 pub mod Walk
@@ -15,6 +13,6 @@ pub mod Entries
 pub mod Least
 pub mod NumberLemmas
 pub mod OfJobs
-pub mod Pigeons
 pub mod SeatLemmas
-pub mod PrestartSet
+pub mod RowLemmas
+pub mod OneList

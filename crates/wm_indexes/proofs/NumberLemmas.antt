@@ -10,14 +10,14 @@ use Rattle.std.proofs.lemmas.List.Sums.{sum_by-append, sum_by-cons, sum_by-inser
 use Rattle.wm_desc.specs.Sorted.{IsSortedOnce, removed}
 use Rattle.wm_ordered.specs.Ordered.{key_of, value_at}
 use Rattle.wm_ordered.proofs.Members.{Contains-cons, Contains-head, Contains-mapped, Contains-nil, find-before, find-None, find-Some}
+use Rattle.wm_ordered.proofs.Rows.{no_more}
 use Rattle.wm_indexes.specs.declared.prestart_job.PrestartEntry.{PrestartEntry}
 use Rattle.wm_indexes.specs.declared.prestart_job.PrestartJob.{PrestartJob}
 use Rattle.wm_indexes.specs.Ready.{available, entry_cmp, is_available, is_available_in, same_entry}
 use Rattle.wm_indexes.specs.Seats.{AreNumbers, HaveSome, number_at}
 use Rattle.wm_indexes.proofs.Counts.{is_of, number_by}
 use Rattle.wm_indexes.proofs.Entries.{entry-itself, entry_ties, entry_total, one_entry}
-use Rattle.wm_indexes.proofs.Pigeons.{no_more}
-use Rattle.wm_indexes.proofs.PrestartSet.{removed-is, row}
+use Rattle.wm_indexes.proofs.RowLemmas.{removed-is, row}
 
 and-true : (b c : Bool) → c ≡ true → (b && c) ≡ b
 and-true true c h = h

@@ -1,108 +1,40 @@
--- What seats keep of the idle jobs, and what is found in them.
+-- What is found among the seats of idle jobs.
 use Rattle.std.proofs.Common.{◌≡◌, ◌⊎◌, ℕ, ◌<◌, ◌≤◌, Bool, true, false, not, List, [], length, get_or, map, Some, None, option_map, inl, inr, refl, ap, sym, ◌∙◌, subst, arith, Contains, nat_eq, eq-eqb}
-use Rattle.std.specs.List.{AllPairs, filter, fold, insert}
+use Rattle.std.specs.List.{filter, fold}
 use Rattle.std.specs.Cmp.{tied_itself}
 use Rattle.std.specs.declared.cmp.Ordering.{Ordering}
 use Rattle.std.specs.declared.cmp.Ordering.TheVariants.{Less, Equal, Greater}
 use Rattle.std.specs.Ordering.{is_eq, is_lt, nat_cmp, ordering_then}
 use mathlib.Core.Bool.{false≢true}
-use Rattle.std.proofs.lemmas.Bool.{and_parts, cases_Bool, not-true, not_from_false}
+use Rattle.std.proofs.lemmas.Bool.{and_parts}
 use Rattle.std.proofs.lemmas.Bool.Decides.{nat_tests}
 use Rattle.std.proofs.lemmas.Cmp.{ranked}
-use Rattle.std.proofs.lemmas.List.{length-map}
 use Rattle.std.proofs.lemmas.List.Kept.{AllPairs-filter}
 use Rattle.wm_base.proofs.Orderings.{lt-Less}
-use Rattle.wm_desc.specs.Sorted.{IsSortedOnce, has_key, removed}
-use Rattle.wm_ordered.specs.Ordered.{key_of, first_from, value_at}
-use Rattle.wm_ordered.proofs.Members.{Contains-filter, Contains-from_filter, Contains-insert_cases, Contains-insert_new, Contains-insert_old, Contains-mapped, Contains-nil, find-before, find-None, find-Some, list_any-false, list_any-none}
+use Rattle.wm_desc.specs.Sorted.{IsSortedOnce}
+use Rattle.wm_ordered.specs.Index.{IsIndex}
+use Rattle.wm_ordered.specs.Keys.{nothing_of}
+use Rattle.wm_ordered.specs.Ordered.{key_of, first_from}
+use Rattle.wm_ordered.proofs.Members.{Contains-filter, Contains-from_filter, find-before, find-None, find-Some}
 use Rattle.wm_indexes.specs.declared.prestart_job.PrestartEntry.{PrestartEntry}
 use Rattle.wm_indexes.specs.declared.prestart_job.PrestartJob.{PrestartJob}
 use Rattle.wm_indexes.specs.declared.seat.Seat.{Seat}
 use Rattle.wm_indexes.specs.Ready.{entry_cmp, first_idle, is_idle, is_idle_in, of_lesser_number, same_entry}
-use Rattle.wm_indexes.specs.Seats.{AreSeats, is_idle_job, same_seat, seat_cmp, seat_of}
+use Rattle.wm_indexes.specs.Seats.{is_idle_job, same_seat, seat_cmp, seat_of}
 use Rattle.wm_indexes.proofs.Entries.{entry_ties, entry_total, one_entry, same_seat-serial, seat-itself, seat_total}
 use Rattle.wm_indexes.proofs.Least.{IsLeast, least, none-least}
-use Rattle.wm_indexes.proofs.Pigeons.{no_more}
-use Rattle.wm_indexes.proofs.PrestartSet.{alone}
+use Rattle.wm_indexes.proofs.RowLemmas.{IsKey}
 
 abbrev row : ℕ × PrestartJob → Seat × Unit {0}
 row x = (seat_of x, tt)
 
--- no jobs have no seats
-pub no-seats : (jobs : List (ℕ × PrestartJob)) (seats : List (Seat × Unit {0})) → jobs ≡ [] → seats ≡ [] → AreSeats jobs seats
-no-seats jobs seats none empty = record {
-  sound = λ r there. absurd (Contains-nil r (subst (λ l. Contains l r) empty there));
-  whole = λ x there idle. absurd (Contains-nil x (subst (λ l. Contains l x) none there));
+-- each job has a seat of its own
+pub seat_key : IsKey seat_of seat_cmp same_seat
+seat_key = record {
+  own = λ x y same. same_seat-serial (seat_of x) (seat_of y) same;
+  itself = seat-itself;
+  tied = λ k. tied_itself seat_total k;
 }
-
-module _ (jobs : List (ℕ × PrestartJob)) (seats : List (Seat × Unit {0})) (h : AreSeats jobs seats) where
-  -- an idle job more
-  pub seated : (x : ℕ × PrestartJob) (i j : ℕ) → is_idle_job x ≡ true → AreSeats (insert jobs i x) (insert seats j (row x))
-  seated x i j idle = record {
-    sound = λ r there. elim (Contains-insert_cases seats j (row x) r there) [
-      | inl e ↦ (x, sym e, idle, Contains-insert_new jobs i x)
-      | inr old ↦ (let s = h.sound r old in (s.0, s.1, s.2, Contains-insert_old jobs i x s.0 s.3))
-    ];
-    whole = λ y there t. elim (Contains-insert_cases jobs i x y there) [
-      | inl e ↦ subst (λ (q : ℕ × PrestartJob). Contains (insert seats j (row x)) (row q)) e (Contains-insert_new seats j (row x))
-      | inr old ↦ Contains-insert_old seats j (row x) (row y) (h.whole y old t)
-    ];
-  }
-
-  -- a job more that isn't idle
-  pub unseated : (x : ℕ × PrestartJob) (i : ℕ) → is_idle_job x ≡ false → AreSeats (insert jobs i x) seats
-  unseated x i busy = record {
-    sound = λ r there. let s = h.sound r there in (s.0, s.1, s.2, Contains-insert_old jobs i x s.0 s.3);
-    whole = λ y there t. elim (Contains-insert_cases jobs i x y there) [
-      | inl e ↦ absurd (false≢true (sym busy ∙ (ap is_idle_job e ∙ t)))
-      | inr old ↦ h.whole y old t
-    ];
-  }
-
-  -- a job that isn't there has no seat
-  pub no-seat : (x : ℕ × PrestartJob) → has_key key_of nat_eq x.0 jobs ≡ false → has_key key_of same_seat (seat_of x) seats ≡ false
-  no-seat x new =
-      list_any-none (λ r. same_seat r.0 (seat_of x)) seats (λ r there.
-      elim (cases_Bool (same_seat r.0 (seat_of x))) [
-        | inl e ↦ (
-            let s = h.sound r there in
-            let serial : s.0.0 ≡ x.0 = sym (ap (λ (q : Seat × Unit {0}). q.0.serial) s.1) ∙ same_seat-serial r.0 (seat_of x) e in
-            absurd (false≢true (sym (list_any-false (λ (y : ℕ × PrestartJob). nat_eq y.0 x.0) jobs s.0 new s.3) ∙ eq-eqb s.0.0 x.0 serial)))
-        | inr e ↦ e
-      ])
-
-  -- a job less
-  pub shrunk : (s : ℕ) (v : PrestartJob) → IsSortedOnce key_of nat_cmp jobs → value_at nat_eq s jobs ≡ Some v → AreSeats (removed key_of nat_eq s jobs) (removed key_of same_seat (seat_of (s, v)) seats)
-  shrunk s v sorted is =
-      let seat : Seat = seat_of (s, v) in
-      record {
-        sound = λ r there. (
-            let kept = Contains-from_filter (λ q. not (same_seat q.0 seat)) seats r there in
-            let x = h.sound r kept.0 in (
-              x.0,
-              x.1,
-              x.2,
-              Contains-filter (λ y. not (nat_eq y.0 s)) jobs x.0 x.3 (elim (cases_Bool (nat_eq x.0.0 s)) [
-                | inl e ↦ absurd (false≢true (sym (not-true _ kept.1) ∙ (ap (λ (q : Seat × Unit {0}). same_seat q.0 seat) x.1 ∙ (ap (λ (y : ℕ × PrestartJob). same_seat (seat_of y) seat) (alone s v jobs sorted is x.0 x.3 e) ∙ seat-itself seat))))
-                | inr e ↦ not_from_false _ e
-              ]),
-            ));
-        whole = λ y there t. (
-            let kept = Contains-from_filter (λ z. not (nat_eq z.0 s)) jobs y there in
-            Contains-filter (λ q. not (same_seat q.0 seat)) seats (row y) (h.whole y kept.0 t) (elim (cases_Bool (same_seat (seat_of y) seat)) [
-              | inl e ↦ absurd (false≢true (sym (not-true _ kept.1) ∙ eq-eqb y.0 s (same_seat-serial (seat_of y) seat e)))
-              | inr e ↦ not_from_false _ e
-            ]));
-      }
-
-  -- seats are no more than jobs
-  pub seats-length : IsSortedOnce key_of seat_cmp seats → length seats ≤ length jobs
-  seats-length sorted =
-      let fits = no_more (λ (r : Seat × Unit {0}). r.0) seats (map seat_of jobs) distinct (λ r there. let s = h.sound r there in subst (λ (q : Seat × Unit {0}). Contains (map seat_of jobs) q.0) (sym s.1) (Contains-mapped seat_of jobs s.0 s.3)) in
-      omega (arith, fits, length-map jobs seat_of)
-    where
-      distinct : AllPairs (λ (a b : Seat × Unit {0}). a.0 ≡ b.0 → ⊥) seats
-      distinct i j d lt in_range e = cc (sym (sorted i j d lt in_range) ∙ (ap (λ k. seat_cmp k (get_or seats j d).0) e ∙ tied_itself seat_total (get_or seats j d).0))
 
 seat-fields : (a b : Seat) → seat_cmp a b ≡ ordering_then (entry_cmp a.entry b.entry) (ordering_then (nat_cmp a.number b.number) (nat_cmp a.serial b.serial))
 seat-fields a b = refl
@@ -130,7 +62,7 @@ less-by Greater m i n j e h = absurd (cc h)
 same-less : (e : PrestartEntry) (m i n j : ℕ) → ordering_then (entry_cmp e e) (ordering_then (nat_cmp m i) (nat_cmp n j)) ≡ Less → (m ≤ i) × (m ≡ i → n < j)
 same-less e m i n j h = less-by (nat_cmp m i) m i n j refl (sym (ap (λ o. ordering_then o (ordering_then (nat_cmp m i) (nat_cmp n j))) (tied_itself entry_total e)) ∙ h)
 
-module _ (jobs : List (ℕ × PrestartJob)) (seats : List (Seat × Unit {0})) (h : AreSeats jobs seats) (entry : PrestartEntry) where
+module _ (jobs : List (ℕ × PrestartJob)) (seats : List (Seat × Unit {0})) (h : IsIndex seat_of nothing_of is_idle_job jobs seats) (entry : PrestartEntry) where
   abbrev begin : Seat
   begin = record { entry = entry; number = 0; serial = 0 }
 

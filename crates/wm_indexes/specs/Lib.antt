@@ -10,5 +10,6 @@ pub mod Turns
 pub mod OfJobs
 pub mod PrestartInside
 pub mod Ready
+pub mod Rows
 pub mod Seats
 pub mod Supply

@@ -1,21 +1,29 @@
--- The moments of some serials, in the order in which they come.
-use Rattle.std.specs.Prelude.{◌≡◌, ℕ, ◌≤◌, List, length, nat_lt, fold, Option, None, if◌then◌else◌}
+-- The rows of active jobs by what of their wishes acts: their moments, in the order in which they come, and their kills.
+use Rattle.std.specs.Prelude.{ℕ, ◌≤◌, Bool, List, Option, is_some, unwrap_or}
 use Rattle.std.specs.List.{Contains}
-use Rattle.wm_ordered.specs.Least.{sooner}
+use Rattle.wm_indexes.specs.declared.acting.Acting.{Acting}
 use Rattle.wm_indexes.specs.declared.turn.Turn.{Turn}
-use Rattle.wm_indexes.specs.Turns.{turn_of}
 
--- the serial of a turn among others
-abbrev pub serial_in : Turn × Unit {0} → ℕ
-serial_in r = r.0.serial
+-- whether a job's wish has a moment that is yet to come
+abbrev pub has_moment : ℕ × Acting → Bool
+has_moment job = is_some job.1.until
 
--- the turns are those of serials with these moments, each once, and the moments are in range
-pub record AreTurns (items : List (ℕ × ℕ)) (turns : List (Turn × Unit {0})) : Type 0 where
-  pub sound : (r : Turn × Unit {0}) → Contains turns r → Contains items (r.0.serial, r.0.moment)
-  pub whole : (e : ℕ × ℕ) → Contains items e → Contains turns (turn_of e, tt)
-  pub range : (e : ℕ × ℕ) → Contains items e → e.1 ≤ 253402214399
-  pub counted : length turns ≡ length items
+-- that moment, where there is one
+abbrev pub moment_of : ℕ × Acting → ℕ
+moment_of job = unwrap_or job.1.until 0
 
--- of the moments of serials the least above the clock
-abbrev pub least_above : ℕ → List (ℕ × ℕ) → Option ℕ
-least_above clock items = fold (λ least e. if nat_lt clock e.1 then sooner least e.1 else least) None items
+-- when it comes
+abbrev pub turn_of : ℕ × Acting → Turn
+turn_of job = record { moment = moment_of job; serial = job.0 }
+
+-- whether a monitor is to be handed a job's kill
+abbrev pub is_to_kill : ℕ × Acting → Bool
+is_to_kill job = is_some job.1.kill
+
+-- that monitor, where there is one
+abbrev pub monitor_of : ℕ × Acting → ℕ
+monitor_of job = unwrap_or job.1.kill 0
+
+-- the moments are in range
+abbrev pub AreInRange : List (ℕ × Acting) → Type 0
+AreInRange jobs = (job : ℕ × Acting) → Contains jobs job → moment_of job ≤ 253402214399

@@ -1,8 +1,8 @@
--- The idle jobs by their entries, and how many requests or jobs an entry has.
-use Rattle.std.specs.Prelude.{◌≡◌, ℕ, ◌+◌, ◌≤◌, Bool, true, List, length, unwrap_or}
+-- The seats of idle prestart jobs, by entry, and how many jobs of an entry are available.
+use Rattle.std.specs.Prelude.{◌≡◌, ℕ, ◌≤◌, Bool, List, unwrap_or}
 use Rattle.std.specs.List.{Contains}
 use Rattle.std.specs.declared.cmp.Ordering.{Ordering}
-use Rattle.wm_ordered.specs.Ordered.{Pairs, value_at}
+use Rattle.wm_ordered.specs.Ordered.{value_at}
 use Rattle.wm_indexes.specs.declared.prestart_job.PrestartEntry.{PrestartEntry}
 use Rattle.wm_indexes.specs.declared.prestart_job.PrestartJob.{PrestartJob}
 use Rattle.wm_indexes.specs.declared.seat.Seat.{Seat}
@@ -26,11 +26,6 @@ seat_of job = record { entry = job.1.entry; number = job.1.number; serial = job.
 abbrev pub is_idle_job : ℕ × PrestartJob → Bool
 is_idle_job job = is_idle job.1.readiness
 
--- the seats are those of the idle jobs
-pub record AreSeats (jobs : List (ℕ × PrestartJob)) (seats : List (Seat × Unit {0})) : Type 0 where
-  pub sound : (r : Seat × Unit {0}) → Contains seats r → (x : ℕ × PrestartJob) × (r ≡ (seat_of x, tt)) × (is_idle_job x ≡ true) × Contains jobs x
-  pub whole : (x : ℕ × PrestartJob) → Contains jobs x → is_idle_job x ≡ true → Contains seats (seat_of x, tt)
-
 -- the number of an entry, which is 0 where it has no row
 abbrev pub number_at : PrestartEntry → List (PrestartEntry × ℕ) → ℕ
 number_at entry rows = unwrap_or (value_at same_entry entry rows) 0
@@ -43,7 +38,3 @@ HaveSome rows = (r : PrestartEntry × ℕ) → Contains rows r → 1 ≤ r.1
 pub record AreNumbers (jobs : List (ℕ × PrestartJob)) (rows : List (PrestartEntry × ℕ)) : Type 0 where
   pub numbers : (entry : PrestartEntry) → number_at entry rows ≡ available entry jobs
   pub some : HaveSome rows
-
--- how many rows there is room for in all, those that are there with them
-abbrev pub nodes_of : {K V : Type 0} → Pairs K V → ℕ
-nodes_of rows = length rows.items + rows.spare

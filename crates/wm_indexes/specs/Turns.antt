@@ -1,5 +1,5 @@
 -- The order of moments.
-use Rattle.std.specs.Prelude.{ℕ, Bool}
+use Rattle.std.specs.Prelude.{Bool}
 use Rattle.std.specs.declared.cmp.Ordering.{Ordering}
 use Rattle.wm_indexes.specs.declared.turn.Turn.{Turn}
 use Rattle.wm_indexes.specs.contracts.turn.TurnOrd.TheImpl as by_cmp
@@ -12,7 +12,3 @@ turn_cmp = (by_cmp.ghosts).cmp
 -- whether two are one, as `==` answers
 abbrev pub same_turn : Turn → Turn → Bool
 same_turn = (by_eq.ghosts).eq
-
--- the turn of a serial with its moment
-abbrev pub turn_of : ℕ × ℕ → Turn
-turn_of e = record { moment = e.1; serial = e.0 }

@@ -1,10 +1,10 @@
 // The active jobs.
 use crate::acting::Acting;
-use crate::active_rows::{lacking, put_kill, take_job, take_row};
 use crate::kills::{count_of, first_of};
-use crate::moments::{least_above, put_moment, take_moment};
+use crate::moments::{least_above, turn_of};
+use crate::rows::{lacking, put_row, take_row, whole};
 use crate::turn::Turn;
-use std::alloc::{AllocError, Global};
+use std::alloc::Global;
 use std::marker::Model;
 use wm_base::{Moment, NoMemory, Serial};
 use wm_ordered::Ordered;
@@ -18,7 +18,7 @@ pub struct ActiveJobs {
     // The kills that are yet to be handed, each with its monitor.
     kills: Ordered<Serial, u32>,
     // How many jobs there may be, and so how many moments and how many kills.
-    most: usize,
+    most: u32,
 }
 
 impl Model for ActiveJobs {
@@ -28,9 +28,9 @@ impl Model for ActiveJobs {
 
     ghost Value = { Pairs ℕ Acting };
 
-    ghost use Rattle.wm_indexes.specs.ActiveInside.{seen_of, IsActiveInside};
+    ghost use Rattle.wm_indexes.specs.ActiveInside.{active_of, IsActiveInside};
 
-    ghost view = { seen_of };
+    ghost view = { active_of };
 
     ghost invariant = { IsActiveInside };
 }
@@ -61,17 +61,13 @@ impl ActiveJobs {
         ensures items { self.new.items ≡ self.old.items }
         ensures spare { self.old.spare ≤ self.new.spare }
     {
-        let most = self
-            .jobs
-            .len()
-            .checked_add(more as usize)
-            .ok_or(AllocError)?;
+        let most = whole(self.jobs.len(), more)?;
         if most <= self.most {
             return Ok(());
         }
         self.jobs.reserve(more)?;
-        self.moments.reserve(lacking(most, self.moments.len())?)?;
-        self.kills.reserve(lacking(most, self.kills.len())?)?;
+        self.moments.reserve(lacking(most, self.moments.len()))?;
+        self.kills.reserve(lacking(most, self.kills.len()))?;
         self.most = most;
         Ok(())
     }
@@ -91,10 +87,13 @@ impl ActiveJobs {
         ensures items { self.new.items ≡ added key_of nat_cmp (serial, acting) self.old.items }
         ensures spare { self.old.spare ≡ self.new.spare + 1 }
     {
-        // `len` tells that serials ascend.
-        self.jobs.len();
-        put_moment(&mut self.moments, serial, acting.until);
-        put_kill(&mut self.kills, serial, &acting);
+        // `len` tells that keys ascend.
+        self.moments.len();
+        self.kills.len();
+        let turn = turn_of(serial, &acting);
+        put_row(&mut self.moments, acting.until.is_some(), turn, ());
+        let monitor = acting.kill.unwrap_or(0);
+        put_row(&mut self.kills, acting.kill.is_some(), serial, monitor);
         self.jobs.insert(serial, acting);
     }
 
@@ -104,9 +103,14 @@ impl ActiveJobs {
         ensures spare { self.old.spare ≤ self.new.spare }
         ensures nodes { length self.new.items + self.new.spare ≡ length self.old.items + self.old.spare }
     {
-        let until = take_job(&mut self.jobs, serial);
-        take_moment(&mut self.moments, serial, until);
-        take_row(&mut self.kills, &serial);
+        // `len` tells that serials ascend.
+        self.jobs.len();
+        let Some(was) = self.jobs.remove(&serial) else {
+            return;
+        };
+        let turn = turn_of(serial, &was);
+        take_row(&mut self.moments, was.until.is_some(), &turn);
+        take_row(&mut self.kills, was.kill.is_some(), &serial);
     }
 
     /// Gives a job that is there another acting part of its wish. It takes no memory.
@@ -114,15 +118,20 @@ impl ActiveJobs {
         ensures items { self.new.items ≡ with_value nat_eq serial acting self.old.items }
         ensures spare { self.new.spare ≡ self.old.spare }
     {
-        // `len` tells that serials ascend.
+        // `len` tells that keys ascend.
         self.jobs.len();
         let Some(was) = self.jobs.set(&serial, acting) else {
             return;
         };
-        take_moment(&mut self.moments, serial, was.until);
-        take_row(&mut self.kills, &serial);
-        put_moment(&mut self.moments, serial, acting.until);
-        put_kill(&mut self.kills, serial, &acting);
+        let before = turn_of(serial, &was);
+        take_row(&mut self.moments, was.until.is_some(), &before);
+        take_row(&mut self.kills, was.kill.is_some(), &serial);
+        self.moments.len();
+        self.kills.len();
+        let turn = turn_of(serial, &acting);
+        put_row(&mut self.moments, acting.until.is_some(), turn, ());
+        let monitor = acting.kill.unwrap_or(0);
+        put_row(&mut self.kills, acting.kill.is_some(), serial, monitor);
     }
 
     /// The least serial that isn't below a serial.
@@ -146,6 +155,9 @@ impl ActiveJobs {
     pub fn first_kill(&self, monitor: u32) -> Option<Serial>
         ensures { result ≡ first_kill monitor self.now.items }
     {
+        // `len` tells that serials ascend.
+        self.jobs.len();
+        self.kills.len();
         first_of(&self.kills, monitor)
     }
 
@@ -153,6 +165,9 @@ impl ActiveJobs {
     pub fn kills(&self, monitor: u32) -> usize
         ensures { result ≡ kills monitor self.now.items }
     {
+        // `len` tells that serials ascend.
+        self.jobs.len();
+        self.kills.len();
         count_of(&self.kills, monitor)
     }
 }

@@ -1,8 +1,9 @@
 // The active prestart jobs.
-use crate::moves::{join, part, sit, stand};
+use crate::numbers::{join, number, part};
 use crate::prestart_job::{PrestartEntry, PrestartJob};
-use crate::prestart_rows::{lacking, number, whole};
+use crate::rows::{lacking, put_row, take_row, whole};
 use crate::seat::Seat;
+use crate::seats::seat_of;
 use std::alloc::Global;
 use std::marker::Model;
 use wm_base::{NoMemory, Serial};
@@ -28,9 +29,9 @@ impl Model for PrestartJobs {
 
     ghost Value = { Pairs ℕ PrestartJob };
 
-    ghost use Rattle.wm_indexes.specs.PrestartInside.{seen_of, IsPrestartInside};
+    ghost use Rattle.wm_indexes.specs.PrestartInside.{prestart_of, IsPrestartInside};
 
-    ghost view = { seen_of };
+    ghost view = { prestart_of };
 
     ghost invariant = { IsPrestartInside };
 }
@@ -90,7 +91,8 @@ impl PrestartJobs {
         // `len` tells that keys ascend.
         self.seats.len();
         self.numbers.len();
-        sit(&mut self.seats, serial, &job);
+        let seat = seat_of(serial, &job);
+        put_row(&mut self.seats, job.readiness.is_idle(), seat, ());
         join(&mut self.numbers, &job);
         self.jobs.insert(serial, job);
     }
@@ -103,11 +105,12 @@ impl PrestartJobs {
     {
         // `len` tells that serials ascend.
         self.jobs.len();
-        let Some(job) = self.jobs.remove(&serial) else {
+        let Some(was) = self.jobs.remove(&serial) else {
             return;
         };
-        stand(&mut self.seats, serial, &job);
-        part(&mut self.numbers, &job);
+        let seat = seat_of(serial, &was);
+        take_row(&mut self.seats, was.readiness.is_idle(), &seat);
+        part(&mut self.numbers, &was);
     }
 
     /// Puts another job in the place of one that is there. It takes no memory.
@@ -120,11 +123,13 @@ impl PrestartJobs {
         let Some(was) = self.jobs.set(&serial, job) else {
             return;
         };
-        stand(&mut self.seats, serial, &was);
+        let before = seat_of(serial, &was);
+        take_row(&mut self.seats, was.readiness.is_idle(), &before);
         part(&mut self.numbers, &was);
         self.seats.len();
         self.numbers.len();
-        sit(&mut self.seats, serial, &job);
+        let seat = seat_of(serial, &job);
+        put_row(&mut self.seats, job.readiness.is_idle(), seat, ());
         join(&mut self.numbers, &job);
     }
 

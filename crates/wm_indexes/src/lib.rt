@@ -29,7 +29,6 @@
 
 mod acting;
 mod active;
-mod active_rows;
 mod bounds;
 mod full_names;
 mod jobs;
@@ -37,14 +36,15 @@ mod keys;
 mod kills;
 mod laws;
 mod moments;
-mod moves;
 mod name_rows;
 mod names;
 mod namesakes;
+mod numbers;
 mod prestart_job;
-mod prestart_rows;
 mod refs;
+mod rows;
 mod seat;
+mod seats;
 mod supply;
 mod turn;
 mod uses;

@@ -1,45 +1,30 @@
 // The moments of active jobs' wishes, in the order in which they come.
-ghost use Rattle.std.specs.Prelude.{◌≡◌, ℕ, ◌≤◌, false, nat_eq, List};
-ghost use Rattle.std.specs.Ordering.{nat_cmp};
-ghost use Rattle.wm_desc.specs.Sorted.{IsSortedOnce, has_key, removed};
-ghost use Rattle.wm_ordered.specs.Ordered.{key_of, value_at};
-ghost use Rattle.wm_indexes.specs.ActiveInside.{nodes_of, joined};
-ghost use Rattle.wm_indexes.specs.Moments.{AreTurns, serial_in, least_above};
+ghost use Rattle.std.specs.Prelude.{◌≡◌, ℕ, ◌≤◌, List};
+ghost use Rattle.wm_ordered.specs.Index.{IsIndex};
+ghost use Rattle.wm_ordered.specs.Keys.{nothing_of};
+ghost use Rattle.wm_indexes.specs.declared.acting.Acting.{Acting};
+ghost use Rattle.wm_indexes.specs.Active.{next_above};
+ghost use Rattle.wm_indexes.specs.Moments.{AreInRange, has_moment, turn_of};
 
-use crate::active_rows::take_row;
+use crate::acting::Acting;
 use crate::turn::Turn;
 use wm_base::{Moment, Serial};
 use wm_ordered::Ordered;
 
-/// Puts in the moment of a serial that has none, where there is one.
-pub(crate) fn put_moment(turns: &mut Ordered<Turn, ()>, serial: Serial, until: Option<Moment>)
-    requires spare { 1 ≤ turns.old.spare }
-    requires new { has_key serial_in nat_eq serial turns.old.items ≡ false }
-    ensures turns { (items : List (ℕ × ℕ)) → AreTurns items turns.old.items → AreTurns (joined serial until items) turns.new.items }
-    ensures nodes { nodes_of turns.new ≡ nodes_of turns.old }
+/// The turn of a job, whose moment is 0 where it has none.
+pub(crate) fn turn_of(serial: Serial, acting: &Acting) -> Turn
+    ensures turn { result ≡ turn_of (serial, acting.now) }
+    ensures range { result.moment ≤ 253402214399 }
 {
-    if let Some(moment) = until {
-        // `get` tells that the moment is in range.
-        moment.get();
-        turns.insert(Turn { moment, serial }, ());
-    }
-}
-
-/// Takes out the moment of a serial, where it has one. Its room is spare again.
-pub(crate) fn take_moment(turns: &mut Ordered<Turn, ()>, serial: Serial, until: Option<Moment>)
-    ensures turns { (items : List (ℕ × ℕ)) → AreTurns items turns.old.items → IsSortedOnce key_of nat_cmp items → value_at nat_eq serial items ≡ until → AreTurns (removed key_of nat_eq serial items) turns.new.items }
-    ensures nodes { nodes_of turns.new ≡ nodes_of turns.old }
-{
-    if let Some(moment) = until {
-        // `len` tells that turns differ.
-        turns.len();
-        take_row(turns, &Turn { moment, serial });
-    }
+    let moment = acting.until.unwrap_or(Moment::new(0));
+    // `get` tells that the moment is in range.
+    moment.get();
+    Turn { moment, serial }
 }
 
 /// The least of the moments above a clock. It is one look.
 pub(crate) fn least_above(turns: &Ordered<Turn, ()>, clock: Moment) -> Option<Moment>
-    ensures { (items : List (ℕ × ℕ)) → AreTurns items turns.now.items → result ≡ least_above clock items }
+    ensures { (jobs : List (ℕ × Acting)) → IsIndex turn_of nothing_of has_moment jobs turns.now.items → AreInRange jobs → result ≡ next_above clock jobs }
 {
     // `len` tells that turns ascend.
     turns.len();

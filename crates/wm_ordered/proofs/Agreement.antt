@@ -211,11 +211,11 @@ module _ (by_serial : Pairs ℕ Waiter) (by_spot : Pairs Spot ℕ) (by_rise : Pa
           places = λ u v u_there v_there e. agrees.places u v (old all new u u_there) (old all new v v_there) e;
           priorities = λ v v_there. agrees.priorities v (old all new v v_there);
           turns = subst (λ l. IsIndex spot_of serial_of (is_up clock) l turns.items) (sym new) (subst (λ l. IsIndex spot_of serial_of (is_up clock) (removed serial_of nat_eq serial items) l) (sym turns_is)
-              (index-shrinks spot_of serial_of (is_up clock) items by_spot.items agrees.turns w serial named alone same_spot (same_spot-itself w) (λ v v_there e. agrees.places v w v_there there (same_spot-place v w e))));
+              (index-shrinks spot_of serial_of (is_up clock) items by_spot.items agrees.turns w (λ v. nat_eq v.serial serial) named alone same_spot (same_spot-itself w) (λ v v_there e. agrees.places v w v_there there (same_spot-place v w e))));
           early = subst (λ l. IsIndex rise_of nothing_of (is_ahead clock) l early.items) (sym new) (subst (λ l. IsIndex rise_of nothing_of (is_ahead clock) (removed serial_of nat_eq serial items) l) (sym early_is)
-              (index-shrinks rise_of nothing_of (is_ahead clock) items by_rise.items agrees.early w serial named alone same_rise (same_rise-itself w) (λ v v_there e. alone v v_there (ap (λ n. nat_eq n serial) (same_rise-serial v w e) ∙ named))));
+              (index-shrinks rise_of nothing_of (is_ahead clock) items by_rise.items agrees.early w (λ v. nat_eq v.serial serial) named alone same_rise (same_rise-itself w) (λ v v_there e. alone v v_there (ap (λ n. nat_eq n serial) (same_rise-serial v w e) ∙ named))));
           lines = subst (λ l. IsIndex spot_of serial_of (λ v. true) l lines.items) (sym new) (subst (λ l. IsIndex spot_of serial_of (λ v. true) (removed serial_of nat_eq serial items) l) (sym lines_is)
-              (index-shrinks spot_of serial_of (λ v. true) items by_line.items agrees.lines w serial named alone same_spot (same_spot-itself w) (λ v v_there e. agrees.places v w v_there there (same_spot-place v w e))));
+              (index-shrinks spot_of serial_of (λ v. true) items by_line.items agrees.lines w (λ v. nat_eq v.serial serial) named alone same_spot (same_spot-itself w) (λ v v_there e. agrees.places v w v_there there (same_spot-place v w e))));
           most = omega (arith, n, all_less, one, agrees.most);
           room = omega (arith, n, all_less, one, more, agrees.room);
           room_in_turns = omega (arith, n, all_less, one, same_turns, agrees.room_in_turns);

@@ -1,6 +1,6 @@
--- Rows that are those of the waiters that pass a test: what edits leave of this, and what is found in them.
-use Rattle.std.proofs.Common.{◌≡◌, ℕ, ◌≤◌, Bool, true, false, not, List, length, get_or, map, Some, None, inl, inr, ap, sym, ◌∙◌, subst, arith, Contains, nat_eq}
-use Rattle.std.specs.List.{insert, AllPairs, slice_get}
+-- Rows that are those of the entries that pass a test: what edits leave of this, and what is found in them.
+use Rattle.std.proofs.Common.{◌≡◌, ℕ, ◌≤◌, Bool, true, false, not, List, [], length, get_or, map, Some, None, inl, inr, ap, sym, ◌∙◌, subst, arith, Contains}
+use Rattle.std.specs.List.{filter, insert, AllPairs, slice_get}
 use Rattle.std.specs.declared.cmp.Ordering.{Ordering}
 use Rattle.std.specs.declared.cmp.Ordering.TheVariants.{Less, Equal}
 use mathlib.Core.Bool.{false≢true}
@@ -9,77 +9,84 @@ use Rattle.std.proofs.lemmas.List.{length-map}
 use Rattle.wm_desc.specs.Sorted.{IsSortedOnce, has_key, removed}
 use Rattle.wm_ordered.specs.Ordered.{key_of}
 use Rattle.wm_ordered.proofs.Soonest.{soonest-None, soonest-Some}
-use Rattle.wm_ordered.proofs.Members.{Contains-mapped, Contains-insert_new, Contains-insert_old, Contains-insert_cases, Contains-filter, Contains-from_filter, first-before, first-there, first-none, list_any-none}
+use Rattle.wm_ordered.proofs.Members.{Contains-mapped, Contains-insert_new, Contains-insert_old, Contains-insert_cases, Contains-filter, Contains-from_filter, first-before, first-there, first-none, list_any-none, Contains-nil}
 use Rattle.wm_ordered.specs.declared.waiter.Waiter.{Waiter}
 use Rattle.wm_ordered.specs.declared.keys.Rise.{Rise}
 use Rattle.wm_ordered.specs.Keys.{rise_of, nothing_of}
-use Rattle.wm_ordered.specs.Waiting.{serial_of, is_ahead, next_due}
+use Rattle.wm_ordered.specs.Waiting.{is_ahead, next_due}
 use Rattle.wm_ordered.specs.Index.{IsIndex}
 use Rattle.wm_ordered.specs.Orders.{rise_cmp}
 use Rattle.wm_ordered.proofs.Orders.{sooner_due}
 use Rattle.wm_ordered.proofs.Rows.{no_more}
 
-module _ {K V : Type 0} (key : Waiter → K) (told : Waiter → V) (test : Waiter → Bool) (items : List Waiter) (rows : List (K × V)) (index : IsIndex key told test items rows) where
-  abbrev row : Waiter → K × V
+-- no entries have no rows
+pub index-empty : {E K V : Type 0} (key : E → K) (told : E → V) (test : E → Bool) (items : List E) (rows : List (K × V)) → items ≡ [] → rows ≡ [] → IsIndex key told test items rows
+index-empty key told test items rows none empty = record {
+  sound = λ r h. absurd (Contains-nil r (subst (λ l. Contains l r) empty h));
+  whole = λ e h t. absurd (Contains-nil e (subst (λ l. Contains l e) none h));
+}
+
+module _ {E K V : Type 0} (key : E → K) (told : E → V) (test : E → Bool) (items : List E) (rows : List (K × V)) (index : IsIndex key told test items rows) where
+  abbrev row : E → K × V
   row w = (key w, told w)
 
-  -- a waiter more, which passes
-  pub index-grows : (w : Waiter) (i j : ℕ) → test w ≡ true → IsIndex key told test (insert items i w) (insert rows j (key w, told w))
+  -- an entry more, which passes
+  pub index-grows : (w : E) (i j : ℕ) → test w ≡ true → IsIndex key told test (insert items i w) (insert rows j (key w, told w))
   index-grows w i j passes = record {
     sound = λ r h. elim (Contains-insert_cases rows j (row w) r h) [
       | inl e ↦ (w, sym e, passes, Contains-insert_new items i w)
       | inr old ↦ (let s = index.sound r old in (s.0, s.1, s.2, Contains-insert_old items i w s.0 s.3))
     ];
     whole = λ v h t. elim (Contains-insert_cases items i w v h) [
-      | inl e ↦ subst (λ (q : Waiter). Contains (insert rows j (row w)) (row q)) e (Contains-insert_new rows j (row w))
+      | inl e ↦ subst (λ (q : E). Contains (insert rows j (row w)) (row q)) e (Contains-insert_new rows j (row w))
       | inr old ↦ Contains-insert_old rows j (row w) (row v) (index.whole v old t)
     ];
   }
 
-  -- a waiter more, which doesn't
-  pub index-keeps : (w : Waiter) (i : ℕ) → test w ≡ false → IsIndex key told test (insert items i w) rows
+  -- an entry more, which doesn't
+  pub index-keeps : (w : E) (i : ℕ) → test w ≡ false → IsIndex key told test (insert items i w) rows
   index-keeps w i fails = record {
     sound = λ r h. let s = index.sound r h in (s.0, s.1, s.2, Contains-insert_old items i w s.0 s.3);
     whole = λ v h t. elim (Contains-insert_cases items i w v h) [ inl e ↦ absurd (false≢true (sym fails ∙ (ap test e ∙ t))) | inr old ↦ index.whole v old t ];
   }
 
-  -- no row has the key of a waiter that isn't there
-  pub index-lacks : (eq : K → K → Bool) (w : Waiter) → ((v : Waiter) → Contains items v → eq (key v) (key w) ≡ false) → has_key key_of eq (key w) rows ≡ false
+  -- no row has the key of an entry that isn't there
+  pub index-lacks : (eq : K → K → Bool) (w : E) → ((v : E) → Contains items v → eq (key v) (key w) ≡ false) → has_key key_of eq (key w) rows ≡ false
   index-lacks eq w apart = list_any-none (λ r. eq r.0 (key w)) rows (λ r h. let s = index.sound r h in ap (λ (q : K × V). eq q.0 (key w)) s.1 ∙ apart s.0 s.3)
 
-  module _ (w : Waiter) (serial : ℕ) (named : nat_eq w.serial serial ≡ true) (alone : (v : Waiter) → Contains items v → nat_eq v.serial serial ≡ true → v ≡ w) where
-    -- a waiter less, which had no row
-    pub index-left : test w ≡ false → IsIndex key told test (removed serial_of nat_eq serial items) rows
+  module _ (w : E) (goes : E → Bool) (named : goes w ≡ true) (alone : (v : E) → Contains items v → goes v ≡ true → v ≡ w) where
+    -- an entry less, which had no row
+    pub index-left : test w ≡ false → IsIndex key told test (filter (λ v. not (goes v)) items) rows
     index-left fails = record {
       sound = λ r h. let s = index.sound r h in (
         s.0,
         s.1,
         s.2,
-        Contains-filter (λ v. not (nat_eq v.serial serial)) items s.0 s.3 (elim (cases_Bool (nat_eq s.0.serial serial)) [
+        Contains-filter (λ v. not (goes v)) items s.0 s.3 (elim (cases_Bool (goes s.0)) [
           | inl e ↦ absurd (false≢true (sym fails ∙ (ap test (sym (alone s.0 s.3 e)) ∙ s.2)))
           | inr e ↦ not_from_false _ e
         ]),
       );
-      whole = λ v h t. index.whole v (Contains-from_filter (λ u. not (nat_eq u.serial serial)) items v h).0 t;
+      whole = λ v h t. index.whole v (Contains-from_filter (λ v. not (goes v)) items v h).0 t;
     }
 
-    module _ (eq : K → K → Bool) (itself : eq (key w) (key w) ≡ true) (apart : (v : Waiter) → Contains items v → eq (key v) (key w) ≡ true → v ≡ w) where
-      -- a waiter less
-      pub index-shrinks : IsIndex key told test (removed serial_of nat_eq serial items) (removed key_of eq (key w) rows)
+    module _ (eq : K → K → Bool) (itself : eq (key w) (key w) ≡ true) (apart : (v : E) → Contains items v → eq (key v) (key w) ≡ true → v ≡ w) where
+      -- an entry less
+      pub index-shrinks : IsIndex key told test (filter (λ v. not (goes v)) items) (removed key_of eq (key w) rows)
       index-shrinks = record {
         sound = λ r h. let kept = Contains-from_filter (λ q. not (eq q.0 (key w))) rows r h in
             let s = index.sound r kept.0 in (
               s.0,
               s.1,
               s.2,
-              Contains-filter (λ v. not (nat_eq v.serial serial)) items s.0 s.3 (elim (cases_Bool (nat_eq s.0.serial serial)) [
-                | inl e ↦ absurd (false≢true (sym (not-true _ kept.1) ∙ (ap (λ (q : K × V). eq q.0 (key w)) s.1 ∙ (ap (λ (u : Waiter). eq (key u) (key w)) (alone s.0 s.3 e) ∙ itself))))
+              Contains-filter (λ v. not (goes v)) items s.0 s.3 (elim (cases_Bool (goes s.0)) [
+                | inl e ↦ absurd (false≢true (sym (not-true _ kept.1) ∙ (ap (λ (q : K × V). eq q.0 (key w)) s.1 ∙ (ap (λ (u : E). eq (key u) (key w)) (alone s.0 s.3 e) ∙ itself))))
                 | inr e ↦ not_from_false _ e
               ]),
             );
-        whole = λ v h t. let kept = Contains-from_filter (λ u. not (nat_eq u.serial serial)) items v h in
+        whole = λ v h t. let kept = Contains-from_filter (λ v. not (goes v)) items v h in
             Contains-filter (λ q. not (eq q.0 (key w))) rows (row v) (index.whole v kept.0 t) (elim (cases_Bool (eq (key v) (key w))) [
-              | inl e ↦ absurd (false≢true (sym (not-true _ kept.1) ∙ (ap (λ (u : Waiter). nat_eq u.serial serial) (apart v kept.0 e) ∙ named)))
+              | inl e ↦ absurd (false≢true (sym (not-true _ kept.1) ∙ (ap goes (apart v kept.0 e) ∙ named)))
               | inr e ↦ not_from_false _ e
             ]);
       }

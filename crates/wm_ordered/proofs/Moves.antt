@@ -33,16 +33,16 @@ module _ (serial : ℕ) (w : Waiter) (items : List Waiter) (by : IsFoundBy seria
 
   -- one that has no row goes out
   pub found-left : {K V : Type 0} (key : Waiter → K) (told : Waiter → V) (test : Waiter → Bool) (rows : List (K × V)) → IsIndex key told test items rows → test w ≡ false → IsIndex key told test (removed serial_of nat_eq serial items) rows
-  found-left key told test rows index fails = index-left key told test items rows index w serial found-named found-alone fails
+  found-left key told test rows index fails = index-left key told test items rows index w (λ v. nat_eq v.serial serial) found-named found-alone fails
 
   module _ {V : Type 0} (told : Waiter → V) (test : Waiter → Bool) where
     -- one goes out with its spot
     pub spot-shrinks : (rows : List (Spot × V)) → IsIndex spot_of told test items rows → IsIndex spot_of told test (removed serial_of nat_eq serial items) (removed key_of same_spot (spot_of w) rows)
-    spot-shrinks rows index = index-shrinks spot_of told test items rows index w serial found-named found-alone same_spot (same_spot-itself w) (λ v there e. by.places v w there found-item (same_spot-place v w e))
+    spot-shrinks rows index = index-shrinks spot_of told test items rows index w (λ v. nat_eq v.serial serial) found-named found-alone same_spot (same_spot-itself w) (λ v there e. by.places v w there found-item (same_spot-place v w e))
 
     -- one goes out with its moment
     pub rise-shrinks : (rows : List (Rise × V)) → IsIndex rise_of told test items rows → IsIndex rise_of told test (removed serial_of nat_eq serial items) (removed key_of same_rise (rise_of w) rows)
-    rise-shrinks rows index = index-shrinks rise_of told test items rows index w serial found-named found-alone same_rise (same_rise-itself w) (λ v there e. found-alone v there (ap (λ n. nat_eq n serial) (same_rise-serial v w e) ∙ found-named))
+    rise-shrinks rows index = index-shrinks rise_of told test items rows index w (λ v. nat_eq v.serial serial) found-named found-alone same_rise (same_rise-itself w) (λ v there e. found-alone v there (ap (λ n. nat_eq n serial) (same_rise-serial v w e) ∙ found-named))
 
 module _ (new old : Waiter) (items : List Waiter) (replaces : Replaces new old items) where
   abbrev left : List Waiter

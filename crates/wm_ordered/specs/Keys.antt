@@ -13,7 +13,7 @@ abbrev pub rise_of : Waiter → Rise
 rise_of w = record { due = w.due; serial = w.serial }
 
 -- what is told of one whose key says all
-abbrev pub nothing_of : Waiter → Unit {0}
+abbrev pub nothing_of : {E : Type 0} → E → Unit {0}
 nothing_of w = tt
 
 -- the row of a waiter by its serial

@@ -1,48 +1,49 @@
-use Rattle.std.proofs.Common.{◌≡◌, ℕ, false, length, nat_eq, ◌∙◌, ap, sym, subst, arith}
+use Rattle.std.proofs.Common.{◌≡◌, ℕ, false, ◌≤◌, nat_eq, refl, ap, sym, subst, arith}
 use Rattle.std.specs.Ordering.{nat_cmp}
-use Rattle.wm_desc.specs.Sorted.{has_key}
+use Rattle.wm_desc.specs.Sorted.{has_key, place_of}
+use Rattle.wm_ordered.specs.Keys.{nothing_of}
 use Rattle.wm_ordered.specs.Ordered.{Pairs, key_of}
-use Rattle.wm_ordered.proofs.Keyed.{length-added}
 use Rattle.wm_indexes.specs.declared.acting.Acting.{Acting}
-use Rattle.wm_indexes.specs.ActiveInside.{joined, parts, until_of, kill_of}
-use Rattle.wm_indexes.specs.Moments.{AreTurns}
-use Rattle.wm_indexes.proofs.Parts.{parts-added, parts-few, parts-lack}
-use Rattle.wm_indexes.proofs.TurnLemmas.{lacks-serial}
+use Rattle.wm_indexes.specs.declared.turn.Turn.{Turn}
+use Rattle.wm_indexes.specs.Moments.{AreInRange, has_moment, is_to_kill, monitor_of, turn_of}
+use Rattle.wm_indexes.specs.Rows.{HaveRows}
+use Rattle.wm_indexes.specs.Turns.{same_turn, turn_cmp}
+use Rattle.wm_indexes.proofs.KillRows.{kill_key}
+use Rattle.wm_indexes.proofs.RowLemmas.{room-added, rows-lack, rows-put, rows-spare}
+use Rattle.wm_indexes.proofs.TurnLemmas.{range-added, turn_key}
 use Rattle.wm_indexes.proofs.active.ActiveJobs.insert.Goals as goal
 
-pub put_moment-requires-clause-spare : goal.put_moment-requires-clause-spare
-put_moment-requires-clause-spare c =
+pub put_row-requires-clause-spare : goal.put_row-requires-clause-spare
+put_row-requires-clause-spare c =
     let spare = ap (λ (v : Pairs ℕ Acting). v.spare) c.self.view_is in
-    omega (arith, c.requires.spare, spare, c.self.invariant.moments_are.counted, parts-few until_of c.self.inside.jobs.items, c.self.invariant.to_wake)
+    rows-spare turn_of nothing_of has_moment turn_cmp same_turn turn_key c.self.inside.most c.self.inside.jobs.items c.self.inside.moments c.self.invariant.moments c.len.ensures.sorted (omega (arith, c.requires.spare, spare))
 
-pub put_moment-requires-clause-new : goal.put_moment-requires-clause-new
-put_moment-requires-clause-new c =
+pub put_row-requires-clause-new : goal.put_row-requires-clause-new
+put_row-requires-clause-new c =
     let new = subst (λ (v : Pairs ℕ Acting). has_key key_of nat_eq c.args.serial v.items ≡ false) (sym c.self.view_is) c.requires.new in
-    lacks-serial (parts until_of c.self.inside.jobs.items) c.self.inside.moments.items c.self.invariant.moments_are c.args.serial (parts-lack until_of c.args.serial c.self.inside.jobs.items new)
+    rw c.turn_of-turn.ensures.turn (rows-lack turn_of nothing_of has_moment turn_cmp same_turn turn_key c.self.inside.most c.self.inside.jobs.items c.self.inside.moments c.self.invariant.moments (c.args.serial, c.args.acting) new)
 
-pub put_kill-requires-clause-spare : goal.put_kill-requires-clause-spare
-put_kill-requires-clause-spare c =
+pub put_row-requires-2-clause-spare : goal.put_row-requires-2-clause-spare
+put_row-requires-2-clause-spare c =
     let spare = ap (λ (v : Pairs ℕ Acting). v.spare) c.self.view_is in
-    omega (arith, c.requires.spare, spare, ap length c.self.invariant.kills_are, parts-few kill_of c.self.inside.jobs.items, c.self.invariant.to_kill)
+    rows-spare key_of monitor_of is_to_kill nat_cmp nat_eq kill_key c.self.inside.most c.self.inside.jobs.items c.self.inside.kills c.self.invariant.kills c.len-2.ensures.sorted (omega (arith, c.requires.spare, spare))
 
-pub put_kill-requires-clause-new : goal.put_kill-requires-clause-new
-put_kill-requires-clause-new c =
+pub put_row-requires-2-clause-new : goal.put_row-requires-2-clause-new
+put_row-requires-2-clause-new c =
     let new = subst (λ (v : Pairs ℕ Acting). has_key key_of nat_eq c.args.serial v.items ≡ false) (sym c.self.view_is) c.requires.new in
-    ap (has_key key_of nat_eq c.args.serial) c.self.invariant.kills_are ∙ parts-lack kill_of c.args.serial c.self.inside.jobs.items new
+    rows-lack key_of monitor_of is_to_kill nat_cmp nat_eq kill_key c.self.inside.most c.self.inside.jobs.items c.self.inside.kills c.self.invariant.kills (c.args.serial, c.args.acting) new
 
 pub invariant_of-self : goal.invariant_of-self
 invariant_of-self c =
-    let s = c.args.serial in
-    let items = c.self.inside.jobs.items in
-    let sorted = c.len.ensures.sorted in
-    let come = c.insert.ensures.items in
+    let x : ℕ × Acting = (c.args.serial, c.args.acting) in
+    let most = c.self.inside.most in
+    let jobs = c.self.inside.jobs in
+    let come = sym c.insert.ensures.items in
     let spare = ap (λ (v : Pairs ℕ Acting). v.spare) c.self.view_is in
-    let more = length-added key_of nat_cmp (s, c.args.acting) items in
+    let in_range = subst (λ (t : Turn). t.moment ≤ 253402214399) c.turn_of-turn.ensures.turn c.turn_of-turn.ensures.range in
     record {
-      moments_are = subst (λ l. AreTurns l c.put_moment.new.turns.items) (parts-added until_of s c.args.acting items sorted ∙ ap (parts until_of) (sym come)) (c.put_moment.ensures.turns (parts until_of items) c.self.invariant.moments_are);
-      kills_are = c.put_kill.ensures.items ∙ (ap (joined s c.args.acting.kill) c.self.invariant.kills_are ∙ (parts-added kill_of s c.args.acting items sorted ∙ ap (parts kill_of) (sym come)));
-      few = omega (arith, c.requires.spare, spare, more, ap length come);
-      to_stand = omega (arith, more, ap length come, c.insert.ensures.spare, c.self.invariant.to_stand);
-      to_wake = omega (arith, c.put_moment.ensures.nodes, c.self.invariant.to_wake);
-      to_kill = omega (arith, c.put_kill.ensures.nodes, c.self.invariant.to_kill);
+      jobs = room-added most jobs c.insert.new.self c.self.invariant.jobs c.args.serial c.args.acting (omega (arith, c.requires.spare, spare)) c.insert.ensures.items c.insert.ensures.spare;
+      moments = subst (λ l. HaveRows turn_of nothing_of has_moment most l c.put_row.new.rows) come (rows-put turn_of nothing_of has_moment turn_cmp same_turn turn_key most jobs.items c.self.inside.moments c.self.invariant.moments x c.is_some.result c.turn_of-turn.result tt c.is_some.ensures c.turn_of-turn.ensures.turn refl c.put_row.new.rows c.put_row.ensures.items c.put_row.ensures.capacity);
+      range = subst AreInRange come (range-added jobs.items (place_of key_of nat_cmp c.args.serial jobs.items) x in_range c.self.invariant.range);
+      kills = subst (λ l. HaveRows key_of monitor_of is_to_kill most l c.put_row-2.new.rows) come (rows-put key_of monitor_of is_to_kill nat_cmp nat_eq kill_key most jobs.items c.self.inside.kills c.self.invariant.kills x c.is_some-2.result c.args.serial c.unwrap_or-monitor.result c.is_some-2.ensures refl c.unwrap_or-monitor.ensures c.put_row-2.new.rows c.put_row-2.ensures.items c.put_row-2.ensures.capacity);
     }

@@ -1,12 +1,9 @@
-use Rattle.std.proofs.Common.{◌≡◌, ℕ, ◌∙◌, subst}
+use Rattle.std.proofs.Common.{◌≡◌, ℕ, subst}
 use Rattle.wm_ordered.specs.Ordered.{Pairs}
 use Rattle.wm_indexes.specs.declared.acting.Acting.{Acting}
 use Rattle.wm_indexes.specs.Active.{next_above}
-use Rattle.wm_indexes.specs.ActiveInside.{parts, until_of}
-use Rattle.wm_indexes.proofs.Among.{next-is}
 use Rattle.wm_indexes.proofs.active.ActiveJobs.next_above.Goals as goal
 
 pub returns : goal.returns
 returns c =
-    subst (λ (v : Pairs ℕ Acting). c.least_above.result ≡ next_above c.args.clock v.items) c.self.view_is
-    (c.least_above.ensures (parts until_of c.self.inside.jobs.items) c.self.invariant.moments_are ∙ next-is c.args.clock c.self.inside.jobs.items)
+    subst (λ (v : Pairs ℕ Acting). c.least_above.result ≡ next_above c.args.clock v.items) c.self.view_is (c.least_above.ensures c.self.inside.jobs.items c.self.invariant.moments.index c.self.invariant.range)

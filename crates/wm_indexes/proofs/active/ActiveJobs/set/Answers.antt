@@ -1,69 +1,81 @@
-use Rattle.std.proofs.Common.{length, nat_eq, ◌∙◌, ap, sym, subst, arith}
-use Rattle.wm_desc.specs.Sorted.{has_key, removed}
+use Rattle.std.proofs.Common.{◌≡◌, ℕ, ◌+◌, ◌≤◌, length, nat_eq, refl, ap, sym, subst, ◌∙◌, arith}
+use Rattle.std.specs.Ordering.{nat_cmp}
+use Rattle.wm_desc.specs.Sorted.{place_of, removed}
+use Rattle.wm_ordered.specs.Keys.{nothing_of}
 use Rattle.wm_ordered.specs.Ordered.{key_of}
-use Rattle.wm_ordered.proofs.Keyed.{lacks-removed, length-set, with_value-lacks}
-use Rattle.wm_indexes.specs.ActiveInside.{joined, parts, until_of, kill_of}
-use Rattle.wm_indexes.specs.Moments.{AreTurns}
-use Rattle.wm_indexes.proofs.Parts.{parts-sorted}
-use Rattle.wm_indexes.proofs.ActiveSet.{fewer-parts, part-there, parts-set}
-use Rattle.wm_indexes.proofs.TurnLemmas.{lacks-serial}
+use Rattle.wm_ordered.proofs.Keyed.{lacks-removed, with_value-lacks}
+use Rattle.wm_indexes.specs.declared.acting.Acting.{Acting}
+use Rattle.wm_indexes.specs.declared.turn.Turn.{Turn}
+use Rattle.wm_indexes.specs.Moments.{AreInRange, has_moment, is_to_kill, monitor_of, turn_of}
+use Rattle.wm_indexes.specs.Rows.{HaveRows}
+use Rattle.wm_indexes.specs.Turns.{same_turn, turn_cmp}
+use Rattle.wm_indexes.proofs.KillRows.{kill_key}
+use Rattle.wm_indexes.proofs.RowLemmas.{one-less, room-set, rows-lack, rows-put, rows-spare, rows-taken, set-again}
+use Rattle.wm_indexes.proofs.TurnLemmas.{range-added, range-removed, turn_key}
 use Rattle.wm_indexes.proofs.active.ActiveJobs.set.Goals as goal
 
 pub invariant_of-self : goal.invariant_of-self
 invariant_of-self c =
-    let items = c.self.inside.jobs.items in
-    let same = c.set.ensures.items ∙ with_value-lacks nat_eq c.args.serial c.args.acting items (sym c.in_default.ensures.was) in
+    let most = c.self.inside.most in
+    let jobs = c.self.inside.jobs in
+    let same = sym (c.set.ensures.items ∙ with_value-lacks nat_eq c.args.serial c.args.acting jobs.items (sym c.in_default.ensures.was)) in
     record {
-      moments_are = subst (λ l. AreTurns (parts until_of l) c.self.inside.moments.items) (sym same) c.self.invariant.moments_are;
-      kills_are = c.self.invariant.kills_are ∙ ap (parts kill_of) (sym same);
-      few = omega (arith, ap length same, c.self.invariant.few);
-      to_stand = omega (arith, ap length same, c.set.ensures.spare, c.self.invariant.to_stand);
-      to_wake = c.self.invariant.to_wake;
-      to_kill = c.self.invariant.to_kill;
+      jobs = room-set most jobs c.set.new.self c.self.invariant.jobs c.args.serial c.args.acting c.set.ensures.items c.set.ensures.spare;
+      moments = subst (λ l. HaveRows turn_of nothing_of has_moment most l c.self.inside.moments) same c.self.invariant.moments;
+      range = subst AreInRange same c.self.invariant.range;
+      kills = subst (λ l. HaveRows key_of monitor_of is_to_kill most l c.self.inside.kills) same c.self.invariant.kills;
     }
 
-pub put_moment-requires-clause-spare : goal.put_moment-requires-clause-spare
-put_moment-requires-clause-spare c =
-    let items = c.self.inside.jobs.items in
-    let sorted = c.len.ensures.sorted in
-    let was = sym c.in-Some.ensures.was in
-    let left = c.take_moment.ensures.turns (parts until_of items) c.self.invariant.moments_are (parts-sorted until_of items sorted) (part-there c.args.serial items sorted c.in-Some.was was until_of) in
-    let fewer = fewer-parts c.args.serial items sorted c.in-Some.was was until_of in
-    omega (arith, fewer, left.counted, c.take_moment.ensures.nodes, c.self.invariant.few, c.self.invariant.to_wake)
+pub put_row-requires-clause-spare : goal.put_row-requires-clause-spare
+put_row-requires-clause-spare c =
+    let s = c.args.serial in
+    let most = c.self.inside.most in
+    let jobs = c.self.inside.jobs in
+    let is = sym c.in-Some.ensures.was in
+    let rest = removed key_of nat_eq s jobs.items in
+    let fewer : length rest + 1 ≤ most = omega (arith, one-less s c.in-Some.was jobs.items c.len.ensures.sorted is, c.self.invariant.jobs.few) in
+    rows-spare turn_of nothing_of has_moment turn_cmp same_turn turn_key most rest c.take_row.new.rows (rows-taken turn_of nothing_of has_moment turn_cmp same_turn turn_key most jobs.items c.self.inside.moments c.self.invariant.moments s c.in-Some.was c.len.ensures.sorted is c.is_some.result c.turn_of-before.result c.is_some.ensures c.turn_of-before.ensures.turn c.take_row.new.rows c.take_row.ensures.items c.take_row.ensures.capacity) c.len-2.ensures.sorted fewer
 
-pub put_moment-requires-clause-new : goal.put_moment-requires-clause-new
-put_moment-requires-clause-new c =
-    let items = c.self.inside.jobs.items in
-    let sorted = c.len.ensures.sorted in
-    let was = sym c.in-Some.ensures.was in
-    let left = c.take_moment.ensures.turns (parts until_of items) c.self.invariant.moments_are (parts-sorted until_of items sorted) (part-there c.args.serial items sorted c.in-Some.was was until_of) in
-    lacks-serial (removed key_of nat_eq c.args.serial (parts until_of items)) c.take_moment.new.turns.items left c.args.serial (lacks-removed nat_eq c.args.serial (parts until_of items))
+pub put_row-requires-clause-new : goal.put_row-requires-clause-new
+put_row-requires-clause-new c =
+    let s = c.args.serial in
+    let most = c.self.inside.most in
+    let jobs = c.self.inside.jobs in
+    let is = sym c.in-Some.ensures.was in
+    let rest = removed key_of nat_eq s jobs.items in
+    rw c.turn_of-turn.ensures.turn (rows-lack turn_of nothing_of has_moment turn_cmp same_turn turn_key most rest c.take_row.new.rows (rows-taken turn_of nothing_of has_moment turn_cmp same_turn turn_key most jobs.items c.self.inside.moments c.self.invariant.moments s c.in-Some.was c.len.ensures.sorted is c.is_some.result c.turn_of-before.result c.is_some.ensures c.turn_of-before.ensures.turn c.take_row.new.rows c.take_row.ensures.items c.take_row.ensures.capacity) (s, c.args.acting) (lacks-removed nat_eq s jobs.items))
 
-pub put_kill-requires-clause-spare : goal.put_kill-requires-clause-spare
-put_kill-requires-clause-spare c =
-    let was = sym c.in-Some.ensures.was in
-    let fewer = fewer-parts c.args.serial c.self.inside.jobs.items c.len.ensures.sorted c.in-Some.was was kill_of in
-    let left = ap length (c.take_row.ensures.items ∙ ap (removed key_of nat_eq c.args.serial) c.self.invariant.kills_are) in
-    omega (arith, fewer, left, c.take_row.ensures.nodes, c.self.invariant.few, c.self.invariant.to_kill)
+pub put_row-requires-2-clause-spare : goal.put_row-requires-2-clause-spare
+put_row-requires-2-clause-spare c =
+    let s = c.args.serial in
+    let most = c.self.inside.most in
+    let jobs = c.self.inside.jobs in
+    let is = sym c.in-Some.ensures.was in
+    let rest = removed key_of nat_eq s jobs.items in
+    let fewer : length rest + 1 ≤ most = omega (arith, one-less s c.in-Some.was jobs.items c.len.ensures.sorted is, c.self.invariant.jobs.few) in
+    rows-spare key_of monitor_of is_to_kill nat_cmp nat_eq kill_key most rest c.take_row-2.new.rows (rows-taken key_of monitor_of is_to_kill nat_cmp nat_eq kill_key most jobs.items c.self.inside.kills c.self.invariant.kills s c.in-Some.was c.len.ensures.sorted is c.is_some-2.result s c.is_some-2.ensures refl c.take_row-2.new.rows c.take_row-2.ensures.items c.take_row-2.ensures.capacity) c.len-3.ensures.sorted fewer
 
-pub put_kill-requires-clause-new : goal.put_kill-requires-clause-new
-put_kill-requires-clause-new c =
-    ap (has_key key_of nat_eq c.args.serial) c.take_row.ensures.items ∙ lacks-removed nat_eq c.args.serial c.self.inside.kills.items
+pub put_row-requires-2-clause-new : goal.put_row-requires-2-clause-new
+put_row-requires-2-clause-new c =
+    let s = c.args.serial in
+    let most = c.self.inside.most in
+    let jobs = c.self.inside.jobs in
+    let is = sym c.in-Some.ensures.was in
+    let rest = removed key_of nat_eq s jobs.items in
+    rows-lack key_of monitor_of is_to_kill nat_cmp nat_eq kill_key most rest c.take_row-2.new.rows (rows-taken key_of monitor_of is_to_kill nat_cmp nat_eq kill_key most jobs.items c.self.inside.kills c.self.invariant.kills s c.in-Some.was c.len.ensures.sorted is c.is_some-2.result s c.is_some-2.ensures refl c.take_row-2.new.rows c.take_row-2.ensures.items c.take_row-2.ensures.capacity) (s, c.args.acting) (lacks-removed nat_eq s jobs.items)
 
 pub invariant_of-self-2 : goal.invariant_of-self-2
 invariant_of-self-2 c =
     let s = c.args.serial in
-    let items = c.self.inside.jobs.items in
-    let sorted = c.len.ensures.sorted in
-    let was = sym c.in-Some.ensures.was in
-    let set = c.set.ensures.items in
-    let long = length-set nat_eq s c.args.acting items in
-    let left = c.take_moment.ensures.turns (parts until_of items) c.self.invariant.moments_are (parts-sorted until_of items sorted) (part-there s items sorted c.in-Some.was was until_of) in
+    let most = c.self.inside.most in
+    let jobs = c.self.inside.jobs in
+    let is = sym c.in-Some.ensures.was in
+    let rest = removed key_of nat_eq s jobs.items in
+    let new = sym (c.set.ensures.items ∙ set-again s c.in-Some.was jobs.items c.len.ensures.sorted is c.args.acting) in
+    let in_range = subst (λ (t : Turn). t.moment ≤ 253402214399) c.turn_of-turn.ensures.turn c.turn_of-turn.ensures.range in
     record {
-      moments_are = subst (λ l. AreTurns l c.put_moment.new.turns.items) (parts-set s items sorted c.in-Some.was was until_of c.args.acting ∙ ap (parts until_of) (sym set)) (c.put_moment.ensures.turns (removed key_of nat_eq s (parts until_of items)) left);
-      kills_are = c.put_kill.ensures.items ∙ (ap (joined s c.args.acting.kill) (c.take_row.ensures.items ∙ ap (removed key_of nat_eq s) c.self.invariant.kills_are) ∙ (parts-set s items sorted c.in-Some.was was kill_of c.args.acting ∙ ap (parts kill_of) (sym set)));
-      few = omega (arith, long, ap length set, c.self.invariant.few);
-      to_stand = omega (arith, long, ap length set, c.set.ensures.spare, c.self.invariant.to_stand);
-      to_wake = omega (arith, c.put_moment.ensures.nodes, c.take_moment.ensures.nodes, c.self.invariant.to_wake);
-      to_kill = omega (arith, c.put_kill.ensures.nodes, c.take_row.ensures.nodes, c.self.invariant.to_kill);
+      jobs = room-set most jobs c.set.new.self c.self.invariant.jobs s c.args.acting c.set.ensures.items c.set.ensures.spare;
+      moments = subst (λ l. HaveRows turn_of nothing_of has_moment most l c.put_row.new.rows) new (rows-put turn_of nothing_of has_moment turn_cmp same_turn turn_key most rest c.take_row.new.rows (rows-taken turn_of nothing_of has_moment turn_cmp same_turn turn_key most jobs.items c.self.inside.moments c.self.invariant.moments s c.in-Some.was c.len.ensures.sorted is c.is_some.result c.turn_of-before.result c.is_some.ensures c.turn_of-before.ensures.turn c.take_row.new.rows c.take_row.ensures.items c.take_row.ensures.capacity) (s, c.args.acting) c.is_some-3.result c.turn_of-turn.result tt c.is_some-3.ensures c.turn_of-turn.ensures.turn refl c.put_row.new.rows c.put_row.ensures.items c.put_row.ensures.capacity);
+      range = subst AreInRange new (range-added rest (place_of key_of nat_cmp s rest) (s, c.args.acting) in_range (range-removed s jobs.items c.self.invariant.range));
+      kills = subst (λ l. HaveRows key_of monitor_of is_to_kill most l c.put_row-2.new.rows) new (rows-put key_of monitor_of is_to_kill nat_cmp nat_eq kill_key most rest c.take_row-2.new.rows (rows-taken key_of monitor_of is_to_kill nat_cmp nat_eq kill_key most jobs.items c.self.inside.kills c.self.invariant.kills s c.in-Some.was c.len.ensures.sorted is c.is_some-2.result s c.is_some-2.ensures refl c.take_row-2.new.rows c.take_row-2.ensures.items c.take_row-2.ensures.capacity) (s, c.args.acting) c.is_some-4.result s c.unwrap_or-monitor.result c.is_some-4.ensures refl c.unwrap_or-monitor.ensures c.put_row-2.new.rows c.put_row-2.ensures.items c.put_row-2.ensures.capacity);
     }

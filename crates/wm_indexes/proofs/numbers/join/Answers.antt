@@ -1,6 +1,6 @@
 use Rattle.std.proofs.Common.{sym, ◌∙◌}
 use Rattle.wm_indexes.proofs.NumberLemmas.{joined}
-use Rattle.wm_indexes.proofs.moves.join.Goals as goal
+use Rattle.wm_indexes.proofs.numbers.join.Goals as goal
 
 pub returns-then-is_available-clause-numbers : goal.returns-then-is_available-clause-numbers
 returns-then-is_available-clause-numbers c = λ jobs serial i are.

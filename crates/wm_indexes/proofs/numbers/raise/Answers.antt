@@ -4,7 +4,7 @@ use Rattle.wm_ordered.specs.Ordered.{key_of}
 use Rattle.wm_ordered.proofs.Keyed.{has-value}
 use Rattle.wm_indexes.specs.Ready.{entry_cmp, same_entry}
 use Rattle.wm_indexes.proofs.Counts.{number-added, number-raised, some-added, some-set}
-use Rattle.wm_indexes.proofs.prestart_rows.raise.Goals as goal
+use Rattle.wm_indexes.proofs.numbers.raise.Goals as goal
 
 pub insert-requires-clause-new : goal.insert-requires-clause-new
 insert-requires-clause-new c = has-value same_entry c.args.entry.now c.args.rows.now.items ∙ ap is_some (sym c.in-None.ensures)

@@ -1,7 +1,7 @@
 use Rattle.std.proofs.Common.{◌≡◌, ◌-◌, ℕ, sym, arith}
 use Rattle.wm_indexes.specs.Seats.{number_at}
 use Rattle.wm_indexes.proofs.Counts.{number-lowered, number-taken, some-removed, some-set, value-there}
-use Rattle.wm_indexes.proofs.prestart_rows.lower.Goals as goal
+use Rattle.wm_indexes.proofs.numbers.lower.Goals as goal
 
 pub returns-then-number-gt1-clause-numbers : goal.returns-then-number-gt1-clause-numbers
 returns-then-number-gt1-clause-numbers c = λ there e.

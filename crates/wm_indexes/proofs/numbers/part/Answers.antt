@@ -1,6 +1,6 @@
 use Rattle.std.proofs.Common.{sym, ◌∙◌}
 use Rattle.wm_indexes.proofs.NumberLemmas.{counted-there, not-parted, parted}
-use Rattle.wm_indexes.proofs.moves.part.Goals as goal
+use Rattle.wm_indexes.proofs.numbers.part.Goals as goal
 
 pub returns-then-is_available-clause-numbers : goal.returns-then-is_available-clause-numbers
 returns-then-is_available-clause-numbers c = λ jobs serial are sorted is.
