@@ -20,7 +20,7 @@ use Rattle.wm_ordered.specs.contracts.waiting.WaitingJobs as WaitingJobs
 use Rattle.wm_pick.specs.contracts.tally.Tally as Tally
 use Rattle.wm_indexes.specs.contracts.names.JobNames as JobNames
 use Rattle.wm_indexes.specs.contracts.active.ActiveJobs as ActiveJobs
-use Rattle.wm_indexes.specs.contracts.jobs.PrestartJobs as PrestartJobs
+use Rattle.wm_indexes.specs.contracts.prestart.PrestartJobs as PrestartJobs
 use Rattle.wm_making.specs.contracts.saved.Saved as Saved
 use Rattle.wm_jobs.specs.contracts.table.JobTable as JobTable
 use Rattle.wm_core.specs.contracts.mark.Mark as Mark

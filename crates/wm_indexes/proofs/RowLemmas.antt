@@ -15,7 +15,7 @@ use Rattle.wm_ordered.specs.Index.{IsIndex, capacity_of}
 use Rattle.wm_ordered.specs.Ordered.{Pairs, key_of, value_at, with_value}
 use Rattle.wm_ordered.proofs.Around.{Around, set-here, removed-here, added-here}
 use Rattle.wm_ordered.proofs.IndexLemmas.{index-grows, index-keeps, index-lacks, index-left, index-length, index-shrinks}
-use Rattle.wm_ordered.proofs.Keyed.{lacks-removed, length-added, length-removed, length-set, with_value-lacks}
+use Rattle.wm_ordered.proofs.Keyed.{length-added, length-removed, length-set}
 use Rattle.wm_ordered.proofs.Members.{AllPairs-head, AllPairs-tail, filter-whole, find-before, find-None, find-Some, list_any-false}
 use Rattle.wm_indexes.specs.Rows.{HaveRoom, HaveRows, seen_of}
 

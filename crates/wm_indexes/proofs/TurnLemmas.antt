@@ -1,5 +1,5 @@
 -- What is found among the moments of active jobs.
-use Rattle.std.proofs.Common.{◌≡◌, ℕ, ◌+◌, ◌<◌, ◌≤◌, Bool, true, false, not, cond, List, [], ◌∷◌, fold, is_some, nat_lt, nat_eq, Option, Some, None, inl, inr, refl, ap, sym, ◌∙◌, subst, arith, Contains}
+use Rattle.std.proofs.Common.{◌≡◌, ℕ, ◌+◌, ◌≤◌, Bool, true, false, not, cond, List, [], ◌∷◌, fold, is_some, nat_lt, nat_eq, Option, Some, None, inl, inr, refl, ap, sym, ◌∙◌, subst, arith, Contains}
 use Rattle.std.specs.List.{insert}
 use Rattle.std.specs.Cmp.{tied_itself}
 use Rattle.std.specs.Ordering.{is_lt}

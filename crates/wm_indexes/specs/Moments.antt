@@ -1,5 +1,5 @@
 -- The rows of active jobs by what of their wishes acts: their moments, in the order in which they come, and their kills.
-use Rattle.std.specs.Prelude.{ℕ, ◌≤◌, Bool, List, Option, is_some, unwrap_or}
+use Rattle.std.specs.Prelude.{ℕ, ◌≤◌, Bool, List, is_some, unwrap_or}
 use Rattle.std.specs.List.{Contains}
 use Rattle.wm_indexes.specs.declared.acting.Acting.{Acting}
 use Rattle.wm_indexes.specs.declared.turn.Turn.{Turn}

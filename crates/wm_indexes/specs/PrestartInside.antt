@@ -4,7 +4,7 @@ use Rattle.wm_ordered.specs.Index.{capacity_of}
 use Rattle.wm_ordered.specs.Keys.{nothing_of}
 use Rattle.wm_ordered.specs.Ordered.{Pairs}
 use Rattle.wm_indexes.specs.declared.prestart_job.PrestartJob.{PrestartJob}
-use Rattle.wm_indexes.specs.declared.jobs.PrestartJobs.TheInside.{Inside}
+use Rattle.wm_indexes.specs.declared.prestart.PrestartJobs.TheInside.{Inside}
 use Rattle.wm_indexes.specs.Rows.{HaveRoom, HaveRows, seen_of}
 use Rattle.wm_indexes.specs.Seats.{AreNumbers, is_idle_job, seat_of}
 

@@ -21,9 +21,10 @@
 //!
 //! The definitions are in `specs/`. Of names: `Names` has what a contract sees of the names and of which jobs they are, `Namesakes`
 //! the jobs of one reference and how a job joins and leaves them, `FullNames` the rows of full names and their order, `Refs` the
-//! references without a number. Of active jobs: `Active` has what is found among them, `Moments` how moments lie in the order in
-//! which they come, `Turns` that order. Of prestart jobs: `Ready` has what is found among them, `OfJobs` those of a state, `Supply`
-//! what the jobs that are made rest on, `Seats` what lies in a map of them. `NamesInside`, `ActiveInside` and `PrestartInside`
+//! references without a number. Of active jobs: `Active` has what is found among them, `Moments` by what their moments and kills are
+//! found, `Turns` the order in which moments come. Of prestart jobs: `Ready` has what is found among them, `OfJobs` those of a state,
+//! `Supply` what the jobs that are made rest on, `Seats` by what idle and available ones are found. `Rows` has how the rows of some
+//! jobs lie beside the map of all, and the room for both. `NamesInside`, `ActiveInside` and `PrestartInside`
 //! say what lies in each index.
 #![tactic(auto)]
 
@@ -31,7 +32,6 @@ mod acting;
 mod active;
 mod bounds;
 mod full_names;
-mod jobs;
 mod keys;
 mod kills;
 mod laws;
@@ -40,6 +40,7 @@ mod name_rows;
 mod names;
 mod namesakes;
 mod numbers;
+mod prestart;
 mod prestart_job;
 mod refs;
 mod rows;
@@ -52,9 +53,9 @@ mod uses;
 pub use acting::Acting;
 pub use active::ActiveJobs;
 pub use bounds::Supply;
-pub use jobs::PrestartJobs;
 pub use laws::prestart_jobs_are_of_the_state;
 pub use names::JobNames;
+pub use prestart::PrestartJobs;
 pub use prestart_job::{PrestartEntry, PrestartJob, Readiness};
 pub use supply::{replenish, room};
 pub use uses::use_done;

@@ -1,4 +1,4 @@
-// Prestart jobs.
+// A prestart job, and its entry.
 use wm_base::{JobNumber, QName};
 
 /// A prestart entry: a program in a subsystem.

@@ -1,8 +1,8 @@
-// What idle jobs are sorted by.
+// What idle prestart jobs are sorted by.
 use crate::PrestartEntry;
 use wm_base::Serial;
 
-/// An idle job: by entry, then number, then serial.
+/// An idle prestart job: by entry, then number, then serial.
 #[derive(Clone, Copy, PartialEq, Eq, PartialOrd, Ord)]
 pub(crate) struct Seat {
     pub(crate) entry: PrestartEntry,

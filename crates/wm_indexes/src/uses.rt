@@ -1,4 +1,4 @@
-// The end of a use.
+// The end of a use of a prestart job.
 ghost use Rattle.std.specs.Prelude.{◌≡◌};
 ghost use Rattle.wm_law.specs.Prestart.{wish_after_use};
 

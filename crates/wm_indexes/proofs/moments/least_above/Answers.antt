@@ -1,4 +1,4 @@
-use Rattle.std.proofs.Common.{◌≡◌, ℕ, ◌+◌, ◌≤◌, None, Some, sym, ◌∙◌, ap, arith}
+use Rattle.std.proofs.Common.{◌≡◌, ℕ, ◌+◌, ◌≤◌, sym, ◌∙◌, ap, arith}
 use Rattle.wm_ordered.specs.Ordered.{first_from}
 use Rattle.wm_indexes.specs.declared.turn.Turn.{Turn}
 use Rattle.wm_indexes.specs.Turns.{turn_cmp}

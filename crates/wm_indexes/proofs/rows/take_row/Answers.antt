@@ -1,4 +1,4 @@
-use Rattle.std.proofs.Common.{ℕ, length, is_some, cond, ap, arith}
+use Rattle.std.proofs.Common.{arith}
 use Rattle.wm_ordered.proofs.Keyed.{length-removed}
 use Rattle.wm_indexes.proofs.rows.take_row.Goals as goal
 

@@ -1,4 +1,4 @@
-use Rattle.std.proofs.Common.{ℕ, nat_eq, refl, ap, sym, subst, ◌∙◌, length, arith}
+use Rattle.std.proofs.Common.{nat_eq, refl, sym, subst, ◌∙◌}
 use Rattle.std.specs.Ordering.{nat_cmp}
 use Rattle.wm_ordered.specs.Keys.{nothing_of}
 use Rattle.wm_ordered.specs.Ordered.{key_of}

@@ -1,10 +1,9 @@
-use Rattle.std.proofs.Common.{◌≡◌, ℕ, ◌+◌, ◌≤◌, length, nat_eq, refl, ap, sym, subst, ◌∙◌, arith}
+use Rattle.std.proofs.Common.{◌+◌, ◌≤◌, length, nat_eq, refl, sym, subst, ◌∙◌, arith}
 use Rattle.std.specs.Ordering.{nat_cmp}
 use Rattle.wm_desc.specs.Sorted.{place_of, removed}
 use Rattle.wm_ordered.specs.Keys.{nothing_of}
 use Rattle.wm_ordered.specs.Ordered.{key_of}
 use Rattle.wm_ordered.proofs.Keyed.{lacks-removed, with_value-lacks}
-use Rattle.wm_indexes.specs.declared.acting.Acting.{Acting}
 use Rattle.wm_indexes.specs.declared.turn.Turn.{Turn}
 use Rattle.wm_indexes.specs.Moments.{AreInRange, has_moment, is_to_kill, monitor_of, turn_of}
 use Rattle.wm_indexes.specs.Rows.{HaveRows}

@@ -5,7 +5,7 @@ use Rattle.wm_indexes.specs.declared.prestart_job.PrestartJob.{PrestartJob}
 use Rattle.wm_indexes.specs.Ready.{first_idle, same_entry}
 use Rattle.wm_indexes.specs.Seats.{seat_cmp}
 use Rattle.wm_indexes.proofs.SeatLemmas.{idle-absent, idle-here, idle-other}
-use Rattle.wm_indexes.proofs.jobs.PrestartJobs.first_idle.Goals as goal
+use Rattle.wm_indexes.proofs.prestart.PrestartJobs.first_idle.Goals as goal
 
 undone : (b : Bool) → not b ≡ false → b ≡ true
 undone true h = refl

@@ -1,4 +1,4 @@
-use Rattle.std.proofs.Common.{◌≡◌, ℕ, ◌+◌, ◌≤◌, length, nat_eq, refl, ◌∙◌, ap, sym, subst, arith}
+use Rattle.std.proofs.Common.{◌+◌, ◌≤◌, length, nat_eq, refl, ◌∙◌, sym, subst, arith}
 use Rattle.std.specs.Ordering.{nat_cmp}
 use Rattle.std.proofs.lemmas.List.Sums.{count_by-le-length}
 use Rattle.wm_desc.specs.Sorted.{place_of, removed}
@@ -11,7 +11,7 @@ use Rattle.wm_indexes.specs.Seats.{AreNumbers, is_idle_job, same_seat, seat_cmp,
 use Rattle.wm_indexes.proofs.NumberLemmas.{numbers-length}
 use Rattle.wm_indexes.proofs.RowLemmas.{one-less, room-set, rows-lack, rows-put, rows-spare, rows-taken, set-again}
 use Rattle.wm_indexes.proofs.SeatLemmas.{seat_key}
-use Rattle.wm_indexes.proofs.jobs.PrestartJobs.set.Goals as goal
+use Rattle.wm_indexes.proofs.prestart.PrestartJobs.set.Goals as goal
 
 pub invariant_of-self : goal.invariant_of-self
 invariant_of-self c =

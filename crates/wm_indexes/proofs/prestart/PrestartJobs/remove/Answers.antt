@@ -1,10 +1,10 @@
-use Rattle.std.proofs.Common.{ℕ, nat_eq, ◌∙◌, sym, subst, arith}
+use Rattle.std.proofs.Common.{◌∙◌, sym, subst, arith}
 use Rattle.wm_ordered.specs.Keys.{nothing_of}
 use Rattle.wm_indexes.specs.Rows.{HaveRows}
 use Rattle.wm_indexes.specs.Seats.{AreNumbers, is_idle_job, same_seat, seat_cmp, seat_of}
 use Rattle.wm_indexes.proofs.RowLemmas.{more-spare, removed-none, room-removed, rows-taken, same-nodes}
 use Rattle.wm_indexes.proofs.SeatLemmas.{seat_key}
-use Rattle.wm_indexes.proofs.jobs.PrestartJobs.remove.Goals as goal
+use Rattle.wm_indexes.proofs.prestart.PrestartJobs.remove.Goals as goal
 
 pub invariant_of-self : goal.invariant_of-self
 invariant_of-self c =

@@ -11,7 +11,7 @@ use Rattle.wm_indexes.specs.Seats.{AreNumbers, is_idle_job, same_seat, seat_cmp,
 use Rattle.wm_indexes.proofs.NumberLemmas.{numbers-length}
 use Rattle.wm_indexes.proofs.RowLemmas.{room-added, rows-lack, rows-put, rows-spare}
 use Rattle.wm_indexes.proofs.SeatLemmas.{seat_key}
-use Rattle.wm_indexes.proofs.jobs.PrestartJobs.insert.Goals as goal
+use Rattle.wm_indexes.proofs.prestart.PrestartJobs.insert.Goals as goal
 
 pub put_row-requires-clause-spare : goal.put_row-requires-clause-spare
 put_row-requires-clause-spare c =
