@@ -1,9 +1,7 @@
 -- What a call changes of the rows of objects, entries and held queues.
 use Rattle.std.proofs.Common.{◌≡◌, ℕ, ◌<◌, ◌≤◌, ◌++◌, not, Bool, true, false, cond, List, [], ◌∷◌, Option, Some, None, is_some, map, refl, sym, ap, subst, ◌∙◌, inl, inr, arith}
-use Rattle.std.specs.Cmp.Lexicographic.{slice_cmp}
 use Rattle.std.specs.List.{flat_map}
 use Rattle.std.specs.Option.{option_map, option_to_list}
-use Rattle.std.specs.Ordering.{nat_cmp}
 use Rattle.std.proofs.lemmas.Bool.{not-false}
 use Rattle.wm_base.specs.QName.{qname_text}
 use Rattle.wm_base.specs.declared.qname.QName.{QName}
@@ -11,22 +9,19 @@ use Rattle.wm_base.specs.declared.refusal.Kind.TheVariants as kind
 use Rattle.wm_base.specs.declared.refusal.Refusal.{Refusal}
 use Rattle.wm_base.specs.declared.refusal.Refusal.TheVariants.{NoObject, SbsActive}
 use Rattle.wm_desc.specs.declared.description.Sbsd.{Sbsd}
-use Rattle.wm_desc.specs.declared.entry.AutoEntry.{AutoEntry}
-use Rattle.wm_desc.specs.declared.entry.PreEntry.{PreEntry}
 use Rattle.wm_desc.specs.declared.entry.QueueEntry.{QueueEntry}
-use Rattle.wm_desc.specs.declared.entry.RouteEntry.{RouteEntry}
 use Rattle.wm_desc.specs.declared.objects.Objects.{Objects}
-use Rattle.wm_desc.specs.Objects.{with_auto, with_description, with_pre, with_queue, with_route, without_auto, without_pre, without_queue, without_route}
-use Rattle.wm_desc.specs.Refusals.{auto_tests, first_refusal, has_auto, has_pre, has_queue, pre_tests, queue_tests, remove_auto_refusal, remove_pre_refusal, remove_queue_refusal, remove_route_refusal, route_tests, seq_used}
+use Rattle.wm_desc.specs.Objects.{with_description, without_auto, without_pre, without_queue, without_route}
+use Rattle.wm_desc.specs.Refusals.{first_refusal, has_auto, has_pre, has_queue, remove_auto_refusal, remove_pre_refusal, remove_queue_refusal, remove_route_refusal, seq_used}
 use Rattle.wm_desc.specs.Sorted.{place_of}
-use Rattle.wm_desc.specs.Table.{name_of, object_named, qname_cmp, same_qname}
+use Rattle.wm_desc.specs.Table.{object_named, qname_cmp, same_qname}
 use Rattle.wm_desc.proofs.Tables.{test_fails}
 use Rattle.wm_traits.specs.declared.row.Row.{Row}
 use Rattle.wm_traits.specs.declared.row.RowChange.{RowChange}
 use Rattle.wm_traits.specs.declared.row.RowChange.TheVariants.{Put, Del}
 use Rattle.wm_law.specs.Choice.{entry_for, is_held}
 use Rattle.wm_law.specs.Machine.{apply, change}
-use Rattle.wm_law.specs.Making.{auto_entry_of, class_of, jobd_of, made_unless, pre_entry_of, queue_entry_of, route_entry_of, unless_in_use}
+use Rattle.wm_law.specs.Making.{made_unless, unless_in_use}
 use Rattle.wm_law.specs.Queues.{hold_queue, own_name, release_queue, with_held_queue, without_held_queue}
 use Rattle.wm_law.specs.Sound.{IsSound}
 use Rattle.wm_law.specs.Stepped.{Stepped}
@@ -36,18 +31,19 @@ use Rattle.wm_law.specs.declared.command.Command.{Command}
 use Rattle.wm_law.specs.declared.command.Command.TheVariants as command
 use Rattle.wm_law.specs.declared.state.State.{State}
 use Rattle.wm_law.proofs.Aside.{IsAside, call_is_aside}
-use Rattle.wm_rows.specs.Rows.{class_row, program_row, queue_row, jobd_row, sbsd_row, queue_entry_row, route_entry_row, auto_entry_row, pre_entry_row, held_row}
+use Rattle.wm_rows.specs.Rows.{class_row, program_row, queue_row, jobd_row, sbsd_row, queue_entry_row, route_entry_row, auto_entry_row, pre_entry_row, command_row, held_row}
 use Rattle.wm_rows.specs.Places.{numbered_place, entry_place}
 use Rattle.wm_rows.specs.Tables.{queue_entry_rows, route_entry_rows, auto_entry_rows, pre_entry_rows, held_rows, object_rows}
 use Rattle.wm_tables.proofs.Made.{tab_before}
+use Rattle.wm_tables.proofs.MadeRows.{IsRowMade, row_made}
 use Rattle.wm_tables.proofs.OwnPlaces.{HasTab, HasTabsTo, tab_flat, tab_mapped}
 use Rattle.wm_tables.proofs.Passing.{of_parts}
 use Rattle.wm_tables.proofs.RowOrder.{HasOwnPlaces}
 use Rattle.wm_tables.specs.Changes.{call_change, command_change, deletion, is_accepted, number_in, number_of, removed_number}
-use Rattle.wm_tables.proofs.Descriptions.{autos_change, class_more, jobd_more, pres_change, program_more, queue_more, queues_change, routes_change, sbsd_more}
+use Rattle.wm_tables.proofs.Descriptions.{autos_change, pres_change, queues_change, routes_change}
 use Rattle.wm_tables.proofs.Differs.{AreApart, Differs, both_differ, same_rows}
 use Rattle.wm_tables.proofs.Left.{auto_less, described, held_less, named_there, pre_less, queue_less, route_less, any_found}
-use Rattle.wm_tables.proofs.OneMoreRow.{IsLess, IsMore, less_differs, less_within, more_differs, more_mapped, more_within}
+use Rattle.wm_tables.proofs.OneMoreRow.{IsLess, less_differs, less_within, more_differs, more_mapped}
 
 -- Objects and held queues stand apart
 
@@ -158,31 +154,6 @@ module _ (s : State) where
         (λ f now. none_differ s itself))
         (λ e now. none_differ s itself)
 
-    -- an entry more
-    queue_in : (sbsd : QName) (entry : QueueEntry) (d : Sbsd) → object_named sbsd s.objects.sbsds ≡ Some d → IsMore (queue_entry_row sbsd entry) (object_rows s.objects) (object_rows (with_description sbsd (with_queue entry) s.objects))
-    queue_in sbsd entry d e =
-        let row = queue_entry_row sbsd entry in
-        queues_change (IsMore row) (more_within row) sbsd (with_queue entry) s.objects d sound.objects.tables.sbsds.sorted (named_there sbsd s.objects.sbsds d e) (λ x. refl) (λ x. refl) (λ x. refl) (λ x. refl)
-        (more_mapped (queue_entry_row sbsd) d.queues (place_of (λ (n : QueueEntry). n.seq) nat_cmp entry.seq d.queues) entry)
-
-    route_in : (sbsd : QName) (entry : RouteEntry) (d : Sbsd) → object_named sbsd s.objects.sbsds ≡ Some d → IsMore (route_entry_row sbsd entry) (object_rows s.objects) (object_rows (with_description sbsd (with_route entry) s.objects))
-    route_in sbsd entry d e =
-        let row = route_entry_row sbsd entry in
-        routes_change (IsMore row) (more_within row) sbsd (with_route entry) s.objects d sound.objects.tables.sbsds.sorted (named_there sbsd s.objects.sbsds d e) (λ x. refl) (λ x. refl) (λ x. refl) (λ x. refl)
-        (more_mapped (route_entry_row sbsd) d.routes (place_of (λ (n : RouteEntry). n.seq) nat_cmp entry.seq d.routes) entry)
-
-    auto_in : (sbsd : QName) (entry : AutoEntry) (d : Sbsd) → object_named sbsd s.objects.sbsds ≡ Some d → IsMore (auto_entry_row sbsd entry) (object_rows s.objects) (object_rows (with_description sbsd (with_auto entry) s.objects))
-    auto_in sbsd entry d e =
-        let row = auto_entry_row sbsd entry in
-        autos_change (IsMore row) (more_within row) sbsd (with_auto entry) s.objects d sound.objects.tables.sbsds.sorted (named_there sbsd s.objects.sbsds d e) (λ x. refl) (λ x. refl) (λ x. refl) (λ x. refl)
-        (more_mapped (auto_entry_row sbsd) d.autos (place_of (λ (n : AutoEntry). n.job) (slice_cmp nat_cmp) entry.job d.autos) entry)
-
-    pre_in : (sbsd : QName) (entry : PreEntry) (d : Sbsd) → object_named sbsd s.objects.sbsds ≡ Some d → IsMore (pre_entry_row sbsd entry) (object_rows s.objects) (object_rows (with_description sbsd (with_pre entry) s.objects))
-    pre_in sbsd entry d e =
-        let row = pre_entry_row sbsd entry in
-        pres_change (IsMore row) (more_within row) sbsd (with_pre entry) s.objects d sound.objects.tables.sbsds.sorted (named_there sbsd s.objects.sbsds d e) (λ x. refl) (λ x. refl) (λ x. refl) (λ x. refl)
-        (more_mapped (pre_entry_row sbsd) d.pres (place_of (λ (n : PreEntry). n.pgm) qname_cmp entry.pgm d.pres) entry)
-
     -- an entry less
     number_is : (sbsd jobq : QName) (d : Sbsd) (e : QueueEntry) → object_named sbsd s.objects.sbsds ≡ Some d → entry_for jobq d ≡ Some e → number_in jobq (object_named sbsd s.objects.sbsds) ≡ Some e.seq
     number_is sbsd jobq d e named found = ap (number_in jobq) named ∙ ap (option_map (λ (n : QueueEntry). n.seq)) found
@@ -232,17 +203,25 @@ module _ (s : State) where
         subst (λ (q : QName). Differs (object_rows s.objects) (object_rows (with_description sbsd (without_pre pgm) s.objects)) (deletion (entry_place 9 sbsd (qname_text q)) ∷ [])) l.1
         (less_differs row _ _ less own.objects)
 
+    -- a row's command
+    answers_by : (t : Stepped) (row : Row) → IsRowMade s row t → Answers (Some (Put row)) t
+    answers_by t row (inl m) = subst (λ (u : Stepped). Answers (Some (Put row)) u) (sym m.1) (λ now. objects_differ (record s { objects = m.0 }) (Put row ∷ []) refl (more_differs row _ _ m.2 now.objects))
+    answers_by t row (inr m) = subst (λ (u : Stepped). Answers (Some (Put row)) u) (sym m.1) (λ now. none_differ s itself)
+
+    row_answers : (user : List ℕ) (c : Command) (row : Row) → command_row c ≡ Some row → Answers (Some (Put row)) (change s user c)
+    row_answers user c row e = answers_by (change s user c) row (row_made s sound.objects user c row e)
+
     -- each command
     command_answers : (user : List ℕ) (c : Command) → Answers (command_change (number_of s.objects c) c) (change s user c)
-    command_answers user (command.Crtcls c) = made_answers _ _ _ (λ n now. more_differs (class_row (c.cls, class_of c)) _ _ (class_more s.objects (class_row (c.cls, class_of c)) _ (more_mapped class_row s.objects.classes (place_of name_of qname_cmp c.cls s.objects.classes) (c.cls, class_of c))) now)
-    command_answers user (command.Crtpgmref c) = made_answers _ _ _ (λ n now. more_differs (program_row (c.pgm, record { path = c.path })) _ _ (program_more s.objects (program_row (c.pgm, record { path = c.path })) _ (more_mapped program_row s.objects.programs (place_of name_of qname_cmp c.pgm s.objects.programs) (c.pgm, record { path = c.path }))) now)
-    command_answers user (command.Crtjobq c) = made_answers _ _ _ (λ n now. more_differs (queue_row (c.jobq, record {})) _ _ (queue_more s.objects (queue_row (c.jobq, record {})) _ (more_mapped queue_row s.objects.jobqs (place_of name_of qname_cmp c.jobq s.objects.jobqs) (c.jobq, record {}))) now)
-    command_answers user (command.Crtjobd c) = made_answers _ _ _ (λ n now. more_differs (jobd_row (c.jobd, jobd_of c)) _ _ (jobd_more s.objects (jobd_row (c.jobd, jobd_of c)) _ (more_mapped jobd_row s.objects.jobds (place_of name_of qname_cmp c.jobd s.objects.jobds) (c.jobd, jobd_of c))) now)
-    command_answers user (command.Crtsbsd c) = made_answers _ _ _ (λ n now. more_differs _ _ _ (sbsd_more s.objects (place_of name_of qname_cmp c.sbsd s.objects.sbsds) c.sbsd c.maxjobs) now)
-    command_answers user (command.Addjobqe c) = made_answers _ _ _ (λ n now. (let m = described s c.sbsd (λ d. first_refusal (queue_tests s.objects (queue_entry_of c) d)) n in more_differs (queue_entry_row c.sbsd (queue_entry_of c)) _ _ (queue_in c.sbsd (queue_entry_of c) m.description m.named) now))
-    command_answers user (command.Addrtge c) = made_answers _ _ _ (λ n now. (let m = described s c.sbsd (λ d. first_refusal (route_tests s.objects (route_entry_of c) d)) n in more_differs (route_entry_row c.sbsd (route_entry_of c)) _ _ (route_in c.sbsd (route_entry_of c) m.description m.named) now))
-    command_answers user (command.Addaje c) = made_answers _ _ _ (λ n now. (let m = described s c.sbsd (λ d. first_refusal (auto_tests s.objects (auto_entry_of c) d)) n in more_differs (auto_entry_row c.sbsd (auto_entry_of c)) _ _ (auto_in c.sbsd (auto_entry_of c) m.description m.named) now))
-    command_answers user (command.Addpje c) = made_answers _ _ _ (λ n now. (let m = described s c.sbsd (λ d. first_refusal (pre_tests s.objects (pre_entry_of c) d)) n in more_differs (pre_entry_row c.sbsd (pre_entry_of c)) _ _ (pre_in c.sbsd (pre_entry_of c) m.description m.named) now))
+    command_answers user (command.Crtcls c) = row_answers user (command.Crtcls c) _ refl
+    command_answers user (command.Crtpgmref c) = row_answers user (command.Crtpgmref c) _ refl
+    command_answers user (command.Crtjobq c) = row_answers user (command.Crtjobq c) _ refl
+    command_answers user (command.Crtjobd c) = row_answers user (command.Crtjobd c) _ refl
+    command_answers user (command.Crtsbsd c) = row_answers user (command.Crtsbsd c) _ refl
+    command_answers user (command.Addjobqe c) = row_answers user (command.Addjobqe c) _ refl
+    command_answers user (command.Addrtge c) = row_answers user (command.Addrtge c) _ refl
+    command_answers user (command.Addaje c) = row_answers user (command.Addaje c) _ refl
+    command_answers user (command.Addpje c) = row_answers user (command.Addpje c) _ refl
     command_answers user (command.Rmvjobqe c) = made_answers _ _ _ (λ n now. queue_out c.sbsd c.jobq n)
     command_answers user (command.Rmvrtge c) = made_answers _ _ _ (λ n now. route_out c.sbsd c.seqnbr n)
     command_answers user (command.Rmvaje c) = made_answers _ _ _ (λ n now. auto_out c.sbsd c.job n)

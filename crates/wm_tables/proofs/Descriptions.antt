@@ -17,8 +17,32 @@ use Rattle.wm_rows.specs.Rows.{class_row, program_row, queue_row, jobd_row, sbsd
 use Rattle.wm_rows.specs.Tables.{queue_entry_rows, route_entry_rows, auto_entry_rows, pre_entry_rows, object_rows, sbsd_rows}
 use Rattle.wm_tables.proofs.OneMore.{first_below, not_same}
 use Rattle.wm_tables.proofs.RowsOf.{other_named}
-use Rattle.wm_tables.proofs.Gained.{flat_same, map_same}
 use Rattle.wm_tables.proofs.OneMoreRow.{IsMore, IsWithin, more_mapped, more_within}
+
+-- A subsystem description that is changed
+
+module _ (name : QName) (alter : Sbsd → Sbsd) where
+  abbrev mend : QName × Sbsd → QName × Sbsd
+  mend x = cond (same_qname x.0 name) (x.0, alter x.1) x
+
+  -- rows that the change leaves
+  module _ (f : QName × Sbsd → Row) (left : (x : QName × Sbsd) → f (x.0, alter x.1) ≡ f x) where
+    one_same : (x : QName × Sbsd) (t : Bool) → f x ≡ f (cond t (x.0, alter x.1) x)
+    one_same x true = sym (left x)
+    one_same x false = refl
+
+    pub map_same : (xs : List (QName × Sbsd)) → map f xs ≡ map f (changed name alter xs)
+    map_same [] = refl
+    map_same (x ∷ xs) = ap (λ (r : Row). r ∷ map f xs) (one_same x (same_qname x.0 name)) ∙ ap (λ (rs : List Row). f (mend x) ∷ rs) (map_same xs)
+
+  module _ (f : QName × Sbsd → List Row) (left : (x : QName × Sbsd) → f (x.0, alter x.1) ≡ f x) where
+    each_same : (x : QName × Sbsd) (t : Bool) → f x ≡ f (cond t (x.0, alter x.1) x)
+    each_same x true = sym (left x)
+    each_same x false = refl
+
+    pub flat_same : (xs : List (QName × Sbsd)) → flat_map f xs ≡ flat_map f (changed name alter xs)
+    flat_same [] = refl
+    flat_same (x ∷ xs) = ap (λ (rs : List Row). rs ++ flat_map f xs) (each_same x (same_qname x.0 name)) ∙ ap (λ (rs : List Row). f (mend x) ++ rs) (flat_same xs)
 
 abbrev Table : Type 0
 Table = List (QName × Sbsd)
@@ -60,9 +84,6 @@ module _ (Q : List Row → List Row → Type 0) (w : IsWithin Q) where
   sbsds_change o ys q = w.right (first_parts o) (sbsd_rows o.sbsds) (sbsd_rows ys) q
 
   module _ (name : QName) (alter : Sbsd → Sbsd) where
-    abbrev mend : QName × Sbsd → QName × Sbsd
-    mend x = cond (same_qname x.0 name) (x.0, alter x.1) x
-
     mend_other : (x : QName × Sbsd) (t : Bool) → t ≡ false → cond t (x.0, alter x.1) x ≡ x
     mend_other x true e = absurd (cc)
     mend_other x false e = refl
@@ -84,7 +105,7 @@ module _ (Q : List Row → List Row → Type 0) (w : IsWithin Q) where
     flat_changed f d q (x ∷ xs) s (inl same) =
         let named : x.0 ≡ name = ap (λ (o : QName × Sbsd). o.0) (sym same) in
         let yes : same_qname x.0 name ≡ true = subst (λ (n : QName). same_qname n name ≡ true) (sym named) (its_own name) in
-        let here : mend x ≡ (name, alter d) = mend_this x (same_qname x.0 name) yes ∙ ap (λ (o : QName × Sbsd). (o.0, alter o.1)) (sym same) in
+        let here : mend name alter x ≡ (name, alter d) = mend_this x (same_qname x.0 name) yes ∙ ap (λ (o : QName × Sbsd). (o.0, alter o.1)) (sym same) in
         let whole : changed name alter (x ∷ xs) ≡ (name, alter d) ∷ xs = ap (λ (o : QName × Sbsd). o ∷ changed name alter xs) here ∙ ap (λ (os : Table). (name, alter d) ∷ os) (rest_unchanged x xs s named) in
         subst (λ (os : Table). Q (flat_map f (x ∷ xs)) (flat_map f os)) (sym whole)
         (subst (λ (o : QName × Sbsd). Q (f o ++ flat_map f xs) (f (name, alter d) ++ flat_map f xs)) same (w.left (f (name, d)) (f (name, alter d)) (flat_map f xs) q))

@@ -1,13 +1,15 @@
 -- What stands in rows that make a state, and what of the state has its row among them.
 use Rattle.std.proofs.Common.{◌≡◌, ◌⊎◌, ℕ, ◌≤◌, ◌++◌, true, List, [], ◌∷◌, refl, sym, ap, subst, ◌∙◌, inl, inr, arith}
 use Rattle.wm_base.specs.declared.qname.QName.{QName}
-use Rattle.wm_desc.specs.declared.objects.Objects.{Objects}
 use Rattle.wm_desc.specs.Sorted.{place_of as place_by}
 use Rattle.wm_desc.specs.Table.{qname_cmp}
 use Rattle.wm_traits.specs.declared.row.Row.{Row}
 use Rattle.wm_traits.specs.Rows.{is_before, place_of}
 use Rattle.wm_law.specs.Laws.{IsIn}
+use Rattle.wm_law.specs.Objects.{AreSound}
 use Rattle.wm_law.specs.Queues.{own_name, with_held_queue}
+use Rattle.wm_law.specs.Stepped.{Stepped}
+use Rattle.wm_law.specs.declared.call.Reply.TheVariants.{Made}
 use Rattle.wm_law.specs.declared.job.Job.{Job}
 use Rattle.wm_law.specs.declared.state.State.{State}
 use Rattle.wm_law.proofs.Members.{in_longer, last_in, of_last}
@@ -19,8 +21,9 @@ use Rattle.wm_rows.specs.JobText.{job_row}
 use Rattle.wm_rows.specs.declared.stored_job.StoredJob.{StoredJob}
 use Rattle.wm_tables.specs.Restart.{job_of, with_counter, with_stored, IsGoodCount, IsRead, Takes}
 use Rattle.wm_tables.proofs.Ends.{counts}
-use Rattle.wm_tables.proofs.Gained.{Gains, gains_left, gains_mapped, gains_right, made_gains}
 use Rattle.wm_tables.proofs.Made.{call_makes, row_holds, tabs_rise}
+use Rattle.wm_tables.proofs.MadeRows.{IsRowMade, row_made}
+use Rattle.wm_tables.proofs.OneMoreRow.{IsMore, fewer_in, more_in, more_mapped, more_within, row_in}
 use Rattle.wm_tables.proofs.RowOrder.{IsAscending}
 use Rattle.wm_tables.proofs.SameRows.{two_places}
 
@@ -43,27 +46,37 @@ pub data IsThing (t : State) (row : Row) : Type 0 where
 -- what one row leaves: what was there, and what it is the row of
 record Leaves (s : State) (row : Row) (t : State) : Type 0 where
   old : (r : Row) → IsIn r (plain s) → IsIn r (plain t)
-  each : (r : Row) → IsIn r (plain t) → IsIn r (plain s) ⊎ (r ≡ row)
+  each : (r : Row) → IsIn r (plain t) → (r ≡ row) ⊎ IsIn r (plain s)
   old_jobs : (j : Job) → IsIn j s.jobs → IsIn j t.jobs
   each_job : (j : Job) → IsIn j t.jobs → IsIn j s.jobs ⊎ HasJobOf (row ∷ []) j
   thing : IsThing t row
 
-objects_left : (s : State) (o : Objects) (row : Row) → Gains (object_rows s.objects) (object_rows o) row → Leaves s row (record s { objects = o })
-objects_left s o row g =
-    let p = gains_left (object_rows s.objects) (object_rows o) (held_rows s.held) (held_rows s.held) row refl g in
-    record { old = p.old; each = p.each; old_jobs = λ j i. i; each_job = λ j i. inl i; thing = plain_thing p.new }
+-- one row more of objects and held queues
+more_left : (s t : State) (row : Row) → IsMore row (plain s) (plain t) → t.jobs ≡ s.jobs → Leaves s row t
+more_left s t row m same = record {
+  old = fewer_in row (plain s) (plain t) m;
+  each = more_in row (plain s) (plain t) m;
+  old_jobs = λ j i. subst (IsIn j) (sym same) i;
+  each_job = λ j i. inl (subst (IsIn j) same i);
+  thing = plain_thing (row_in row (plain s) (plain t) m);
+}
+
+row_left : (s : State) (t : Stepped) (row : Row) → t.reply ≡ Made → IsRowMade s row t → Leaves s row t.state
+row_left s t row made (inl m) =
+    subst (λ (u : Stepped). Leaves s row u.state) (sym m.1)
+    (more_left s (record s { objects = m.0 }) row ((more_within row).left (object_rows s.objects) (object_rows m.0) (held_rows s.held) m.2) refl)
+row_left s t row made (inr m) = let no = sym (ap (λ (u : Stepped). u.reply) m.1) ∙ made in absurd (cc)
 
 held_left : (s : State) (q : QName) (row : Row) → held_row q ≡ row → Leaves s row (with_held_queue s q)
 held_left s q row e =
     let t = with_held_queue s q in
-    let g = subst (λ (r : Row). Gains (held_rows s.held) (held_rows t.held) r) e (gains_mapped held_row s.held (place_by own_name qname_cmp q s.held) q) in
-    let p = gains_right (object_rows s.objects) (object_rows s.objects) (held_rows s.held) (held_rows t.held) row refl g in
-    record { old = p.old; each = p.each; old_jobs = λ j i. i; each_job = λ j i. inl i; thing = plain_thing p.new }
+    let m = subst (λ (r : Row). IsMore r (held_rows s.held) (held_rows t.held)) e (more_mapped held_row s.held (place_by own_name qname_cmp q s.held) q) in
+    more_left s t row ((more_within row).right (object_rows s.objects) (held_rows s.held) (held_rows t.held) m) refl
 
 job_left : (s : State) (k : StoredJob) (row : Row) → job_row k ≡ row → Leaves s row (with_stored s k)
 job_left s k row e = record {
   old = λ r i. i;
-  each = λ r i. inl i;
+  each = λ r i. inr i;
   old_jobs = λ j i. in_longer s.jobs (job_of k) j i;
   each_job = λ j i. (elim (of_last s.jobs (job_of k) j i) as (λ _. IsIn j s.jobs ⊎ HasJobOf (row ∷ []) j) [
     | inl was ↦ inl was
@@ -73,49 +86,61 @@ job_left s k row e = record {
 }
 
 count_left : (s : State) (c : Counter) (n : ℕ) (row : Row) → 12 ≤ row.tab → Leaves s row (with_counter s c n)
-count_left s counter.Number n row late = record { old = λ r i. i; each = λ r i. inl i; old_jobs = λ j i. i; each_job = λ j i. inl i; thing = counter_thing late }
-count_left s counter.Place n row late = record { old = λ r i. i; each = λ r i. inl i; old_jobs = λ j i. i; each_job = λ j i. inl i; thing = counter_thing late }
-count_left s counter.Schema n row late = record { old = λ r i. i; each = λ r i. inl i; old_jobs = λ j i. i; each_job = λ j i. inl i; thing = counter_thing late }
-count_left s counter.Serial n row late = record { old = λ r i. i; each = λ r i. inl i; old_jobs = λ j i. i; each_job = λ j i. inl i; thing = counter_thing late }
+count_left s counter.Number n row late = record { old = λ r i. i; each = λ r i. inr i; old_jobs = λ j i. i; each_job = λ j i. inl i; thing = counter_thing late }
+count_left s counter.Place n row late = record { old = λ r i. i; each = λ r i. inr i; old_jobs = λ j i. i; each_job = λ j i. inl i; thing = counter_thing late }
+count_left s counter.Schema n row late = record { old = λ r i. i; each = λ r i. inr i; old_jobs = λ j i. i; each_job = λ j i. inl i; thing = counter_thing late }
+count_left s counter.Serial n row late = record { old = λ r i. i; each = λ r i. inr i; old_jobs = λ j i. i; each_job = λ j i. inl i; thing = counter_thing late }
 
-left : (s : State) (row : Row) (t : State) → Takes s row t → Leaves s row t
-left s row t (inl m) =
+counted_objects : (s : State) (c : Counter) (n : ℕ) → (with_counter s c n).objects ≡ s.objects
+counted_objects s counter.Number n = refl
+counted_objects s counter.Place n = refl
+counted_objects s counter.Schema n = refl
+counted_objects s counter.Serial n = refl
+
+-- one row keeps sound objects so
+sound_after : (s : State) (row : Row) (t : State) → Takes s row t → AreSound s.objects → AreSound t.objects
+sound_after s row t (inl m) h =
     let made = call_makes s _ m.command m.accepted in
-    let g = subst (λ (u : State). Gains (object_rows s.objects) (object_rows u.objects) row) made.2 (made_gains s _ m.command row m.is_row m.accepted) in
-    subst (Leaves s row) (sym (m.makes ∙ made.2)) (objects_left s made.0 row g)
-left s row t (inr (inl m)) = subst (Leaves s row) (sym (m.makes ∙ (row_holds s m.queue m.accepted).is_with)) (held_left s m.queue row m.is_row)
-left s row t (inr (inr (inl m))) = subst (Leaves s row) (sym m.makes) (job_left s m.job row m.is_row)
-left s row t (inr (inr (inr m))) =
+    subst (λ (u : State). AreSound u.objects) (sym (m.makes ∙ made.2)) (made.1.sound h)
+sound_after s row t (inr (inl m)) h = subst (λ (u : State). AreSound u.objects) (sym (m.makes ∙ (row_holds s m.queue m.accepted).is_with)) h
+sound_after s row t (inr (inr (inl m))) h = subst (λ (u : State). AreSound u.objects) (sym m.makes) h
+sound_after s row t (inr (inr (inr m))) h = subst AreSound (sym (ap (λ (u : State). u.objects) m.makes ∙ counted_objects s m.counter m.count)) h
+
+left : (s : State) (row : Row) (t : State) → AreSound s.objects → Takes s row t → Leaves s row t
+left s row t h (inl m) = subst (Leaves s row) (sym m.makes) (row_left s _ row m.accepted (row_made s h _ m.command row m.is_row))
+left s row t h (inr (inl m)) = subst (Leaves s row) (sym (m.makes ∙ (row_holds s m.queue m.accepted).is_with)) (held_left s m.queue row m.is_row)
+left s row t h (inr (inr (inl m))) = subst (Leaves s row) (sym m.makes) (job_left s m.job row m.is_row)
+left s row t h (inr (inr (inr m))) =
     let twelve : 12 ≡ row.tab = ap (λ (r : Row). r.tab) m.is_row in
     subst (Leaves s row) (sym m.makes) (count_left s m.counter m.count row (omega arith))
 
 -- What all rows leave
 
-old_plain : (rows : List Row) (s t : State) → IsRead s rows t → (r : Row) → IsIn r (plain s) → IsIn r (plain t)
-old_plain [] s t read r i = subst (λ (u : State). IsIn r (plain u)) (sym read) i
-old_plain (row ∷ rows) s t read r i = old_plain rows read.0 t read.2 r ((left s row read.0 read.1).old r i)
+old_plain : (rows : List Row) (s t : State) → AreSound s.objects → IsRead s rows t → (r : Row) → IsIn r (plain s) → IsIn r (plain t)
+old_plain [] s t h read r i = subst (λ (u : State). IsIn r (plain u)) (sym read) i
+old_plain (row ∷ rows) s t h read r i = old_plain rows read.0 t (sound_after s row read.0 read.1 h) read.2 r ((left s row read.0 h read.1).old r i)
 
-old_jobs : (rows : List Row) (s t : State) → IsRead s rows t → (j : Job) → IsIn j s.jobs → IsIn j t.jobs
-old_jobs [] s t read j i = subst (λ (u : State). IsIn j u.jobs) (sym read) i
-old_jobs (row ∷ rows) s t read j i = old_jobs rows read.0 t read.2 j ((left s row read.0 read.1).old_jobs j i)
+old_jobs : (rows : List Row) (s t : State) → AreSound s.objects → IsRead s rows t → (j : Job) → IsIn j s.jobs → IsIn j t.jobs
+old_jobs [] s t h read j i = subst (λ (u : State). IsIn j u.jobs) (sym read) i
+old_jobs (row ∷ rows) s t h read j i = old_jobs rows read.0 t (sound_after s row read.0 read.1 h) read.2 j ((left s row read.0 h read.1).old_jobs j i)
 
-still_thing : (rows : List Row) (s t : State) (row : Row) → IsRead s rows t → IsThing s row → IsThing t row
-still_thing rows s t row read (plain_thing i) = plain_thing (old_plain rows s t read row i)
-still_thing rows s t row read (job_thing k e i) = job_thing k e (old_jobs rows s t read (job_of k) i)
-still_thing rows s t row read (counter_thing late) = counter_thing late
+still_thing : (rows : List Row) (s t : State) (row : Row) → AreSound s.objects → IsRead s rows t → IsThing s row → IsThing t row
+still_thing rows s t row h read (plain_thing i) = plain_thing (old_plain rows s t h read row i)
+still_thing rows s t row h read (job_thing k e i) = job_thing k e (old_jobs rows s t h read (job_of k) i)
+still_thing rows s t row h read (counter_thing late) = counter_thing late
 
 -- each row is that of something
-pub things : (rows : List Row) (s t : State) → IsRead s rows t → (r : Row) → IsIn r rows → IsThing t r
-things [] s t read r i = absurd i
-things (row ∷ rows) s t read r (inl same) = subst (IsThing t) (sym same) (still_thing rows read.0 t row read.2 (left s row read.0 read.1).thing)
-things (row ∷ rows) s t read r (inr i) = things rows read.0 t read.2 r i
+pub things : (rows : List Row) (s t : State) → AreSound s.objects → IsRead s rows t → (r : Row) → IsIn r rows → IsThing t r
+things [] s t h read r i = absurd i
+things (row ∷ rows) s t h read r (inl same) = subst (IsThing t) (sym same) (still_thing rows read.0 t row (sound_after s row read.0 read.1 h) read.2 (left s row read.0 h read.1).thing)
+things (row ∷ rows) s t h read r (inr i) = things rows read.0 t (sound_after s row read.0 read.1 h) read.2 r i
 
 -- the rows of objects and held queues are found
-pub plain_found : (rows : List Row) (s t : State) → IsRead s rows t → (r : Row) → IsIn r (plain t) → IsIn r (plain s) ⊎ IsIn r rows
-plain_found [] s t read r i = inl (subst (λ (u : State). IsIn r (plain u)) read i)
-plain_found (row ∷ rows) s t read r i =
-    elim (plain_found rows read.0 t read.2 r i) as (λ _. IsIn r (plain s) ⊎ IsIn r (row ∷ rows)) [
-      | inl was ↦ (elim ((left s row read.0 read.1).each r was) as (λ _. IsIn r (plain s) ⊎ IsIn r (row ∷ rows)) [ inl old ↦ inl old | inr same ↦ inr (inl same) ])
+pub plain_found : (rows : List Row) (s t : State) → AreSound s.objects → IsRead s rows t → (r : Row) → IsIn r (plain t) → IsIn r (plain s) ⊎ IsIn r rows
+plain_found [] s t h read r i = inl (subst (λ (u : State). IsIn r (plain u)) read i)
+plain_found (row ∷ rows) s t h read r i =
+    elim (plain_found rows read.0 t (sound_after s row read.0 read.1 h) read.2 r i) as (λ _. IsIn r (plain s) ⊎ IsIn r (row ∷ rows)) [
+      | inl was ↦ (elim ((left s row read.0 h read.1).each r was) as (λ _. IsIn r (plain s) ⊎ IsIn r (row ∷ rows)) [ inl same ↦ inr (inl same) | inr old ↦ inl old ])
       | inr later ↦ inr (inr later)
     ]
 
@@ -125,12 +150,12 @@ job_first row rows j h =
     record { job = h.job; found_row = here; is = h.is }
 
 -- each job is the one of a row that is found
-pub jobs_found : (rows : List Row) (s t : State) → IsRead s rows t → (j : Job) → IsIn j t.jobs → IsIn j s.jobs ⊎ HasJobOf rows j
-jobs_found [] s t read j i = inl (subst (λ (u : State). IsIn j u.jobs) read i)
-jobs_found (row ∷ rows) s t read j i =
-    elim (jobs_found rows read.0 t read.2 j i) as (λ _. IsIn j s.jobs ⊎ HasJobOf (row ∷ rows) j) [
-      | inl was ↦ (elim ((left s row read.0 read.1).each_job j was) as (λ _. IsIn j s.jobs ⊎ HasJobOf (row ∷ rows) j) [ inl old ↦ inl old | inr h ↦ inr (job_first row rows j h) ])
-      | inr h ↦ inr (record { job = h.job; found_row = inr h.found_row; is = h.is })
+pub jobs_found : (rows : List Row) (s t : State) → AreSound s.objects → IsRead s rows t → (j : Job) → IsIn j t.jobs → IsIn j s.jobs ⊎ HasJobOf rows j
+jobs_found [] s t h read j i = inl (subst (λ (u : State). IsIn j u.jobs) read i)
+jobs_found (row ∷ rows) s t h read j i =
+    elim (jobs_found rows read.0 t (sound_after s row read.0 read.1 h) read.2 j i) as (λ _. IsIn j s.jobs ⊎ HasJobOf (row ∷ rows) j) [
+      | inl was ↦ (elim ((left s row read.0 h read.1).each_job j was) as (λ _. IsIn j s.jobs ⊎ HasJobOf (row ∷ rows) j) [ inl old ↦ inl old | inr of ↦ inr (job_first row rows j of) ])
+      | inr of ↦ inr (record { job = of.job; found_row = inr of.found_row; is = of.is })
     ]
 
 -- Counters

@@ -26,7 +26,6 @@ pub mod RangedCalls
 pub mod RangedSteps
 pub mod CommandsFit
 pub mod SameRows
-pub mod Gained
 pub mod Found
 pub mod NewRows
 mod Held
@@ -42,6 +41,7 @@ pub mod OneDifference
 pub mod OneMoreRow
 pub mod Descriptions
 pub mod Left
+pub mod MadeRows
 pub mod Commands
 pub mod JobRows
 pub mod CounterRows

@@ -23,6 +23,7 @@ use Rattle.wm_tables.specs.Laws.{NewRowsMakeTables, OnlyEndedJobsAreNew}
 use Rattle.wm_tables.specs.Opened.{is_found, new_rows, IsEnded}
 use Rattle.wm_tables.specs.Restart.{job_of, phase_of, AreGood, HasCounters, IsRestart}
 use Rattle.wm_tables.specs.Tables.{job_rows, puts, rows_of, tables}
+use Rattle.wm_tables.proofs.Building.{empty_built}
 use Rattle.wm_tables.proofs.Ends.{contained, one_counter}
 use Rattle.wm_tables.proofs.Found.{HasJobOf, IsThing, plain_thing, job_thing, counter_thing, counters_kept, jobs_found, plain, plain_found, things, value}
 use Rattle.wm_tables.proofs.OwnRows.{own_rows}
@@ -65,7 +66,7 @@ module _ (offset : ℤ) (found : List Row) (s : State) (good : AreGood offset fo
 
   -- each job has its row among those found, as it was stored
   pub job_was : (j : Job) → IsIn j s.jobs → HasJobOf found j
-  job_was j i = elim (jobs_found found (empty offset) s good.read j i) as (λ _. HasJobOf found j) [ inl none ↦ absurd none | inr h ↦ h ]
+  job_was j i = elim (jobs_found found (empty offset) s (empty_built offset).objects good.read j i) as (λ _. HasJobOf found j) [ inl none ↦ absurd none | inr h ↦ h ]
 
   module _ (all : HasCounters found) where
     counter_found : (c : Counter) → IsIn (counter_row c (value c s)) found
@@ -85,7 +86,7 @@ module _ (offset : ℤ) (found : List Row) (s : State) (good : AreGood offset fo
     counters_found r (inr (inr (inr (inr none)))) = absurd none
 
     first_found : (r : Row) → IsIn r (plain s) → IsIn r found
-    first_found r i = elim (plain_found found (empty offset) s good.read r i) as (λ _. IsIn r found) [ inl none ↦ absurd none | inr m ↦ m ]
+    first_found r i = elim (plain_found found (empty offset) s (empty_built offset).objects good.read r i) as (λ _. IsIn r found) [ inl none ↦ absurd none | inr m ↦ m ]
 
     -- of the state's rows all are found but those of jobs
     state_found : (r : Row) → IsIn r (rows_of s) → IsIn r found ⊎ IsIn r (jobs s)
@@ -145,7 +146,7 @@ module _ (offset : ℤ) (found : List Row) (s : State) (good : AreGood offset fo
       kept r i =
           elim (of_changed rows found r i) as (λ _. IsIn r (rows_of s)) [
             | inl put ↦ put_there r put
-            | inr was ↦ kept_by r was i (things found (empty offset) s good.read r was)
+            | inr was ↦ kept_by r was i (things found (empty offset) s (empty_built offset).objects good.read r was)
           ]
 
       -- so they are the state's tables

@@ -99,16 +99,16 @@ alone row r (x ∷ xs) ys h (inl same) e = h.0 row (in_right_part xs (row ∷ ys
 alone row r (x ∷ xs) ys h (inr i) e = alone row r xs ys h.1 i e
 
 module _ (row : Row) (xs ys : List Row) (m : IsMore row xs ys) where
-  fewer_in : (r : Row) → IsIn r xs → IsIn r ys
+  pub fewer_in : (r : Row) → IsIn r xs → IsIn r ys
   fewer_in r i = subst (λ (l : List Row). IsIn r l) (sym m.is) (elim (of_parts m.before m.behind r (subst (λ (l : List Row). IsIn r l) m.was i)) as (λ _. IsIn r (m.before ++ row ∷ m.behind)) [
     | inl k ↦ in_left_part m.before (row ∷ m.behind) r k
     | inr k ↦ in_right_part m.before (row ∷ m.behind) r (inr k)
   ])
 
-  row_in : IsIn row ys
+  pub row_in : IsIn row ys
   row_in = subst (λ (l : List Row). IsIn row l) (sym m.is) (in_right_part m.before (row ∷ m.behind) row (inl refl))
 
-  more_in : (r : Row) → IsIn r ys → (r ≡ row) ⊎ IsIn r xs
+  pub more_in : (r : Row) → IsIn r ys → (r ≡ row) ⊎ IsIn r xs
   more_in r i = elim (of_parts m.before (row ∷ m.behind) r (subst (λ (l : List Row). IsIn r l) m.is i)) as (λ _. (r ≡ row) ⊎ IsIn r xs) [
     | inl k ↦ inr (subst (λ (l : List Row). IsIn r l) (sym m.was) (in_left_part m.before m.behind r k))
     | inr (inl same) ↦ inl same
