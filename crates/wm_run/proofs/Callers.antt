@@ -5,14 +5,10 @@ use Rattle.std.proofs.lemmas.Bool.{and_parts}
 use Rattle.wm_base.specs.declared.job.Asked.{Asked}
 use Rattle.wm_law.specs.declared.call.Call.{Call}
 use Rattle.wm_law.specs.declared.call.Entry.{Entry}
-use Rattle.wm_law.specs.declared.state.State.{State}
 use Rattle.wm_law.specs.History.{after, is_monitor_call, ordered, orders, reported_in, reports}
-use Rattle.wm_law.proofs.History.{after-append}
 use Rattle.wm_traits.specs.Told.{Grows}
 use Rattle.wm_traits.specs.declared.spawner.Told.{Told}
 use Rattle.wm_turn.specs.Passed.{own}
-use Rattle.wm_turn.proofs.Histories.{own_more, own_none}
-use Rattle.wm_floor.specs.Floor.{Seen}
 use Rattle.wm_floor.specs.Ledger.{behind, caller_of}
 use Rattle.wm_floor.specs.History.{reached}
 use Rattle.wm_floor.specs.Asking.{AsksFor}

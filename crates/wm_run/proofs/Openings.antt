@@ -1,5 +1,5 @@
 -- Laws of a run that opens: what its rows come to, and what it leaves of them.
-use Rattle.std.proofs.Common.{◌≡◌, ◌⊎◌, ℕ, zero, suc, ℤ, ◌<◌, ◌≤◌, true, List, [], ◌∷◌, Option, Some, None, IfSome, is_some, refl, sym, ap, subst, ◌∙◌, inl, inr, arith}
+use Rattle.std.proofs.Common.{◌≡◌, ◌⊎◌, ℕ, ℤ, ◌<◌, true, List, [], ◌∷◌, Option, Some, None, IfSome, is_some, refl, sym, ap, subst, ◌∙◌, inl, inr, arith}
 use Rattle.std.proofs.lemmas.Bool.{true≢false, false≢true}
 use Rattle.wm_floor.specs.History.{History, reached}
 use Rattle.wm_floor.specs.Floor.{IsLeftOrOpened}
@@ -7,7 +7,6 @@ use Rattle.wm_floor.specs.Ledger.{behind}
 use Rattle.wm_floor.specs.declared.opened.Opened.{Opened}
 use Rattle.wm_floor.specs.Trail.{HasTrail, tables_along, without_repeats}
 use Rattle.wm_law.specs.History.{IsLegal}
-use Rattle.wm_law.specs.Pending.{active}
 use Rattle.wm_law.specs.declared.call.Entry.{Entry}
 use Rattle.wm_law.specs.declared.state.State.{State}
 use Rattle.wm_law.proofs.Maxuse.{uses_are_kept}
@@ -19,7 +18,6 @@ use Rattle.wm_traits.specs.Told.{Grows, Stays}
 use Rattle.wm_plan.specs.declared.plan.RunPlan.{RunPlan}
 use Rattle.wm_run.specs.Words.{OpensPlanned}
 use Rattle.wm_run.specs.Kept.{HasHistory, HasOpened, IsUnopened, open_status, store_status}
-use Rattle.wm_floor.specs.Idle.{monitor_pass, NoneIsIdle}
 use Rattle.wm_floor.specs.Keeping.{Telling, IsOpened}
 use Rattle.wm_floor.specs.Stored.{HasTables}
 use Rattle.wm_floor.specs.declared.open_fault.OpenFault.{OpenFault}

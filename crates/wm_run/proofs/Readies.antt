@@ -1,5 +1,5 @@
 -- Laws of what a run has: its passes stay those of its floor.
-use Rattle.std.proofs.Common.{◌≡◌, ℕ, ◌+◌, ◌≤◌, List, length, sym, ap, subst, ◌∙◌, refl, arith}
+use Rattle.std.proofs.Common.{◌≡◌, ℕ, ◌≤◌, List, length, sym, ap, subst, ◌∙◌, arith}
 use Rattle.std.proofs.lemmas.List.{length-append}
 use Rattle.wm_law.specs.declared.call.Entry.{Entry}
 use Rattle.wm_turn.specs.Passed.{StartsWith, own}

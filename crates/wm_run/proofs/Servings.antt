@@ -3,10 +3,8 @@ use Rattle.std.proofs.Common.{◌≡◌, ℕ, ◌≤◌, List, [], ◌∷◌, �
 use Rattle.wm_law.specs.declared.call.Call.{Call}
 use Rattle.wm_law.specs.declared.call.Entry.{Entry}
 use Rattle.wm_law.specs.declared.call.Reply.{Reply}
-use Rattle.wm_turn.specs.Passed.{StartsWith}
 use Rattle.wm_floor.specs.Floor.{Floored, HasLooked, IsPassOf, IsSame, Seen, entry_of}
 use Rattle.wm_floor.specs.declared.opened.Opened.{Opened}
-use Rattle.wm_floor.specs.Lists.{Extends}
 use Rattle.wm_floor.proofs.Lists.{Extends-then}
 use Rattle.wm_floor.specs.Attends.{Attends}
 use Rattle.wm_floor.specs.Scene.{Spawning, scene}

@@ -10,7 +10,6 @@ use Rattle.wm_turn.proofs.Histories.{fronts, nothing, own_here, own_more, starts
 use Rattle.wm_floor.specs.History.{reached}
 use Rattle.wm_floor.specs.Floor.{Floored, HasLooked, Seen, entry_of}
 use Rattle.wm_floor.specs.Ledger.{behind, caller_of}
-use Rattle.wm_floor.specs.declared.opened.Opened.{Opened}
 use Rattle.wm_floor.specs.Idle.{monitor_pass}
 use Rattle.wm_floor.specs.Lists.{since, Extends}
 use Rattle.wm_floor.proofs.Lists.{since-then}

@@ -1,9 +1,7 @@
 -- Lemmas on histories, the entries of one pass in them, and counts of views.
-use Rattle.std.proofs.Common.{◌≡◌, ℕ, zero, suc, ◌+◌, ◌<◌, ◌≤◌, ◌≢◌, Bool, true, false, cond, leb, ◌==◌, if◌then◌else◌, List, [], ◌∷◌, ◌++◌, length, filter, set, max, sym, refl, ap, ◌∙◌, subst, arith, append_assoc, append-nil, length-append, bit_or, eq-eqb, ne_eqb}
+use Rattle.std.proofs.Common.{◌≡◌, ℕ, zero, suc, ◌+◌, ◌<◌, ◌≤◌, ◌≢◌, Bool, true, false, cond, leb, ◌==◌, if◌then◌else◌, List, [], ◌∷◌, ◌++◌, length, set, sym, refl, ap, ◌∙◌, arith, append_assoc, append-nil, length-append, bit_or, eq-eqb, ne_eqb}
 use Rattle.std.proofs.lemmas.List.Elements.{filter-append}
-use mathlib.Core.Logic.{dite}
-use mathlib.Core.Option.{some, none, some-injective, some-ne-none}
-use native.Mathlib.Decide.{ℕ_discrete, dec_le}
+use mathlib.Core.Option.{some, some-injective, some-ne-none}
 use lib.ListN.{get_elem?}
 use borrow.Author.Tests.{leb-true, leb-false}
 use Rattle.wm_turn.specs.Passed.{StartsWith, longer, own}

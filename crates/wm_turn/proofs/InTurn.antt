@@ -1,20 +1,20 @@
 -- The steps of a seat that has its turn keep a turnstile's rule.
-use Rattle.std.proofs.Common.{◌≡◌, ℕ, ◌+◌, ◌-◌, ◌%◌, ◌^◌, ◌<◌, ◌≤◌, ◌≢◌, ◌⊎◌, Bool, true, false, cond, List, [], ◌∷◌, ◌++◌, length, get_or, set, Option, Some, None, is_some, bit_or, sym, refl, ap, ◌∙◌, subst, inl, inr, arith, length-set, length-append, get_or-set_other, true≢false}
+use Rattle.std.proofs.Common.{◌≡◌, ℕ, ◌+◌, ◌-◌, ◌%◌, ◌^◌, ◌<◌, ◌≢◌, true, false, List, [], ◌∷◌, ◌++◌, length, get_or, set, Option, Some, is_some, bit_or, sym, refl, ap, ◌∙◌, subst, inl, inr, arith, length-set, length-append, get_or-set_other, true≢false}
 use mathlib.Core.Logic.{dite}
 use mathlib.Core.Option.{some, none}
 use native.Mathlib.Decide.{ℕ_discrete}
 use lib.ListN.{get_elem?}
-use Rattle.atomic_table.specs.Table.{State, Me, step, keeps, gives, Allows}
+use Rattle.atomic_table.specs.Table.{State, step, keeps, gives, Allows}
 use Rattle.wm_turn.specs.declared.view.View.{View}
 use Rattle.wm_turn.specs.declared.view.Stage.{Stage}
-use Rattle.wm_turn.specs.declared.view.Stage.TheVariants.{Idle, Waiting, Turn}
+use Rattle.wm_turn.specs.declared.view.Stage.TheVariants.{Idle, Turn}
 use Rattle.wm_turn.specs.Passed.{StartsWith, own, risen}
 use Rattle.wm_turn.specs.Views.{Seated, ticket_of, is_live, has_ticket, at_stage, with_entry, with_mark}
-use Rattle.wm_turn.specs.Rule.{Shows, Tells, Fits, Roll, AtHome, IsOut, Ruled}
+use Rattle.wm_turn.specs.Rule.{Shows, Fits, Ruled}
 use Rattle.wm_turn.specs.Kinds.{Enters, Marks, PassesOn}
 use Rattle.wm_turn.proofs.Histories.{starts_itself, starts_more, own_more, own_none, own_here, own_else, at_inside, same_at}
 use Rattle.wm_turn.proofs.Parts.{unit, pass_shows, entry_shows, mark_shows, marked_word, each, here, line_set, line_stays, fits_on, fits_more, roll_more}
-use Rattle.wm_turn.proofs.Keeps.{is_turn, ticket, marked, known, opened, some_same, turn_free, pack, alone, turn_live, away, roll_here, unmade_set, whole_set, staged}
+use Rattle.wm_turn.proofs.Keeps.{ticket, marked, known, opened, some_same, turn_free, pack, alone, turn_live, away, roll_here, unmade_set, staged}
 
 abbrev last_or : {E : Type 0} → E → List E → E
 last_or d [] = d

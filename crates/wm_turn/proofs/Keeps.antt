@@ -1,21 +1,21 @@
 -- Each kind of step keeps a turnstile's rule.
-use Rattle.std.proofs.Common.{◌≡◌, ℕ, ◌+◌, ◌-◌, ◌%◌, ◌^◌, ◌<◌, ◌≤◌, ◌≢◌, ◌⊎◌, Bool, true, false, cond, List, [], ◌∷◌, ◌++◌, length, get_or, set, Option, Some, None, is_some, bit_or, max, sym, refl, ap, ◌∙◌, subst, inl, inr, ⊎_elim, arith, length-set, length-append, get_or-set_other, true≢false, add-zero}
+use Rattle.std.proofs.Common.{◌≡◌, ℕ, ◌+◌, ◌-◌, ◌%◌, ◌^◌, ◌<◌, ◌≤◌, ◌≢◌, ◌⊎◌, Bool, true, false, cond, List, [], ◌∷◌, ◌++◌, length, get_or, set, Option, Some, None, is_some, sym, refl, ap, ◌∙◌, subst, inl, inr, ⊎_elim, arith, length-set, get_or-set_other, true≢false}
 use mathlib.Core.Logic.{dite}
-use mathlib.Core.Option.{some, none, some-injective, some-ne-none}
+use mathlib.Core.Option.{some, none}
 use native.Mathlib.Decide.{ℕ_discrete}
 use lib.ListN.{get_elem?}
 use lib.Seq.{set-get_or}
-use Rattle.atomic_table.specs.Table.{State, Me, step, keeps, takes, gives, stepped, Allows}
+use Rattle.atomic_table.specs.Table.{State, step, keeps, takes, stepped, Allows}
 use Rattle.atomic_table.proofs.Lists.{set_again, set_else, one_turn}
 use Rattle.wm_turn.specs.declared.view.View.{View}
 use Rattle.wm_turn.specs.declared.view.Stage.{Stage}
 use Rattle.wm_turn.specs.declared.view.Stage.TheVariants.{Idle, Waiting, Turn}
-use Rattle.wm_turn.specs.Passed.{StartsWith, own, risen}
-use Rattle.wm_turn.specs.Views.{Seated, ticket_of, is_live, has_ticket, at_stage, seeing, with_entry, with_mark}
-use Rattle.wm_turn.specs.Rule.{how_many, Shows, InLine, Tells, Fits, Roll, AtHome, IsOut, Ruled}
-use Rattle.wm_turn.specs.Kinds.{Draws, Looks, Begins, Checks, Reads, Enters, Marks, PassesOn, Recalled, Recalls}
-use Rattle.wm_turn.proofs.Histories.{starts_itself, starts_again, own_more, own_here, own_else, at_inside, same_at, how_many_most, how_many_some}
-use Rattle.wm_turn.proofs.Parts.{unit, draw_shows, pass_shows, entry_shows, mark_shows, marked_word, each, here, line_set, line_stays, fits_on, fits_more, roll_more, roll_set}
+use Rattle.wm_turn.specs.Passed.{StartsWith, own}
+use Rattle.wm_turn.specs.Views.{Seated, ticket_of, is_live, has_ticket, at_stage, seeing}
+use Rattle.wm_turn.specs.Rule.{Shows, InLine, Fits, Roll, AtHome, IsOut, Ruled}
+use Rattle.wm_turn.specs.Kinds.{Draws, Looks, Begins, Checks, Reads, Recalls}
+use Rattle.wm_turn.proofs.Histories.{starts_itself, starts_again, same_at, how_many_most, how_many_some}
+use Rattle.wm_turn.proofs.Parts.{unit, draw_shows, each, here, line_set, line_stays, roll_set}
 
 -- stages told apart
 abbrev pub is_turn : Stage → Bool

@@ -1,16 +1,16 @@
 -- How the parts of a turnstile's rule go on when one view, or the history, changes.
-use Rattle.std.proofs.Common.{◌≡◌, ℕ, ◌+◌, ◌%◌, ◌^◌, ◌<◌, ◌≤◌, ◌≢◌, ◌⊎◌, Bool, true, false, cond, List, [], ◌∷◌, ◌++◌, length, get_or, set, Option, Some, None, is_some, bit_or, sym, refl, ap, ◌∙◌, subst, inl, inr, ⊎_elim, arith, length-set, get_or-set_same, get_or-set_other, mod-eq_of_lt}
+use Rattle.std.proofs.Common.{◌≡◌, ℕ, ◌+◌, ◌%◌, ◌^◌, ◌<◌, ◌≤◌, ◌≢◌, ◌⊎◌, Bool, true, false, cond, List, [], ◌++◌, length, get_or, set, Option, Some, is_some, bit_or, sym, refl, ap, ◌∙◌, subst, inl, ⊎_elim, arith, length-set, get_or-set_same, get_or-set_other, mod-eq_of_lt}
 use Rattle.std.proofs.Math.Nat.{mod-add-mod}
 use mathlib.Core.Logic.{dite}
-use mathlib.Core.Option.{some, none}
+use mathlib.Core.Option.{some}
 use native.Mathlib.Decide.{ℕ_discrete}
 use lib.ListN.{get_elem?}
 use Rattle.atomic_table.proofs.Lists.{at_set, set_here, set_else}
 use Rattle.wm_turn.specs.declared.view.View.{View}
-use Rattle.wm_turn.specs.declared.view.Stage.TheVariants.{Idle, Waiting, Turn}
-use Rattle.wm_turn.specs.Passed.{StartsWith, own}
+use Rattle.wm_turn.specs.declared.view.Stage.TheVariants.{Turn}
+use Rattle.wm_turn.specs.Passed.{own}
 use Rattle.wm_turn.specs.Views.{ticket_of, is_live, has_ticket}
-use Rattle.wm_turn.specs.Rule.{how_many, Shows, InLine, Tells, Fits, Roll}
+use Rattle.wm_turn.specs.Rule.{Shows, InLine, Fits, Roll}
 use Rattle.wm_turn.proofs.Histories.{starts_more, own_none, at_inside, same_at, how_many_set, or_one}
 
 abbrev pub unit : Bool → ℕ

@@ -1,22 +1,22 @@
 -- A split, a join, the start and the end of a turnstile.
-use Rattle.std.proofs.Common.{◌≡◌, ℕ, zero, suc, ◌+◌, ◌%◌, ◌^◌, ◌<◌, ◌≤◌, ◌≢◌, ◌⊎◌, Bool, true, false, cond, List, [], ◌∷◌, ◌++◌, length, get_or, set, Option, Some, None, is_some, max, sym, refl, ap, ◌∙◌, subst, inl, inr, ⊎_elim, arith, length-set, length-append, true≢false}
+use Rattle.std.proofs.Common.{◌≡◌, ℕ, zero, suc, ◌+◌, ◌^◌, ◌<◌, ◌≤◌, ◌≢◌, ◌⊎◌, Bool, true, false, List, [], ◌∷◌, ◌++◌, length, get_or, set, Option, Some, is_some, sym, refl, ap, ◌∙◌, subst, inl, inr, ⊎_elim, arith, length-set, length-append, true≢false}
 use mathlib.Core.Logic.{dite}
-use mathlib.Core.Option.{some, none, some-injective, some-ne-none}
+use mathlib.Core.Option.{some, some-injective, some-ne-none}
 use native.Mathlib.Decide.{ℕ_discrete}
 use lib.ListN.{get_elem?}
 use Rattle.atomic_table.specs.Table.{State, Splits, Joins, opening, Final, Seen}
 use Rattle.atomic_table.proofs.Lists.{set_here, set_else, at_longer, at_last, at_snoc}
 use Rattle.wm_turn.specs.declared.view.View.{View}
 use Rattle.wm_turn.specs.declared.view.Stage.{Stage}
-use Rattle.wm_turn.specs.declared.view.Stage.TheVariants.{Idle, Waiting, Turn}
-use Rattle.wm_turn.specs.Passed.{StartsWith, longer, own, Passed, HasOwn, HasAll}
+use Rattle.wm_turn.specs.declared.view.Stage.TheVariants.{Idle, Turn}
+use Rattle.wm_turn.specs.Passed.{longer, own, Passed, HasOwn, HasAll}
 use Rattle.wm_turn.specs.Held.{turn_of}
 use Rattle.atomic_table.specs.Seated.{TableId}
 use Rattle.wm_turn.specs.Views.{ticket_of, is_live, has_ticket, first_view, parted, offspring, united, spent}
-use Rattle.wm_turn.specs.Rule.{how_many, Shows, InLine, Tells, Fits, Roll, AtHome, IsOut, Ruled}
-use Rattle.wm_turn.proofs.Histories.{starts_itself, longer_of, longer_is, longer_whole, longer_whole_too, own_fewer, own_between, at_inside, inside_at, same_at, how_many_set, how_many_snoc, how_many_one}
+use Rattle.wm_turn.specs.Rule.{how_many, InLine, Fits, Roll, AtHome, IsOut, Ruled}
+use Rattle.wm_turn.proofs.Histories.{longer_of, longer_whole, longer_whole_too, own_fewer, own_between, at_inside, inside_at, same_at, how_many_set, how_many_snoc, how_many_one}
 use Rattle.wm_turn.proofs.Parts.{unit, each, here, line_stays}
-use Rattle.wm_turn.proofs.Keeps.{is_turn, some_same, turn_free, pack, turn_live, whole_set, slot_set, unmade_set}
+use Rattle.wm_turn.proofs.Keeps.{is_turn, some_same, turn_free, pack, turn_live, whole_set, slot_set}
 
 abbrev Maybe : Type 0 → Type 0
 Maybe A = mathlib.Core.Option.Option A

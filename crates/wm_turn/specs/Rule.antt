@@ -1,11 +1,11 @@
 -- What holds of a turnstile between any two steps.
 -- Its words are `ticket`, the next number to draw, `serving`, the number whose turn it is, `count`, how many entries there are, and `failed`, which is 0 or 1.
-use Rattle.std.specs.Prelude.{◌≡◌, ◌≢◌, ◌⊎◌, ℕ, ◌+◌, ◌%◌, ◌^◌, ◌<◌, ◌≤◌, Bool, true, false, cond, List, [], ◌∷◌, length, slice_index, Option, Some, None}
+use Rattle.std.specs.Prelude.{◌≡◌, ◌≢◌, ◌⊎◌, ℕ, ◌+◌, ◌%◌, ◌^◌, ◌<◌, ◌≤◌, Bool, true, false, cond, List, [], ◌∷◌, length, slice_index, Option, Some}
 use mathlib.Core.Option.{some, none}
 use lib.ListN.{get_elem?}
 use Rattle.atomic_table.specs.Table.{State}
 use Rattle.wm_turn.specs.declared.view.View.{View}
-use Rattle.wm_turn.specs.declared.view.Stage.TheVariants.{Idle, Waiting, Turn}
+use Rattle.wm_turn.specs.declared.view.Stage.TheVariants.{Idle, Turn}
 use Rattle.wm_turn.specs.Passed.{StartsWith, own}
 use Rattle.wm_turn.specs.Views.{ticket_of, is_live, has_ticket}
 

@@ -1,4 +1,4 @@
-use Rattle.std.proofs.Common.{rules, arith, ⊎_elim, ap, length, length-append}
+use Rattle.std.proofs.Common.{rules, arith, ⊎_elim, ap, length}
 use Rattle.wm_turn.proofs.InTurn.{enters}
 use Rattle.wm_turn.proofs.steps.enter_entry.Goals as goal
 

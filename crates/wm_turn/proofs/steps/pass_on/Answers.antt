@@ -1,4 +1,4 @@
-use Rattle.std.proofs.Common.{rules, sym, ap, ◌∙◌}
+use Rattle.std.proofs.Common.{rules, ap, ◌∙◌}
 use Rattle.wm_turn.specs.Views.{failed_of}
 use Rattle.wm_turn.proofs.InTurn.{passes}
 use Rattle.wm_turn.proofs.steps.pass_on.Goals as goal

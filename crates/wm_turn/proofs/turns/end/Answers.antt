@@ -1,7 +1,7 @@
-use Rattle.std.proofs.Common.{◌≡◌, ◌≢◌, ◌≤◌, ℕ, ◌↔◌, IsTrue, sym, subst}
+use Rattle.std.proofs.Common.{◌≡◌, ◌≢◌, ◌≤◌, ◌↔◌, IsTrue, sym, subst}
 use Rattle.wm_turn.specs.declared.view.View.{View}
-use Rattle.wm_turn.specs.Views.{IsTurn, before_of, failed_of, entered, noted, done}
-use Rattle.wm_turn.proofs.Laid.{noted_is_turn, noted_marks, third_to, all_done}
+use Rattle.wm_turn.specs.Views.{IsTurn, before_of, failed_of, entered, noted}
+use Rattle.wm_turn.proofs.Laid.{noted_is_turn, noted_marks, third_to}
 use Rattle.wm_turn.proofs.turns.end.Goals as goal
 
 pub pass_on-served-requires-clause-turn : goal.pass_on-served-requires-clause-turn

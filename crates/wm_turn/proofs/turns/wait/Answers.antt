@@ -1,5 +1,5 @@
-use Rattle.std.proofs.Common.{rules, sym, ap, ◌∙◌}
-use Rattle.wm_turn.proofs.Laid.{still_waits, still_free, still_live, still_begins}
+use Rattle.std.proofs.Common.{rules}
+use Rattle.wm_turn.proofs.Laid.{still_waits, still_free, still_live}
 use Rattle.wm_turn.proofs.turns.wait.Goals as goal
 
 pub look-served-requires : goal.look-served-requires

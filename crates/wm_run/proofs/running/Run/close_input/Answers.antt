@@ -1,8 +1,6 @@
-use Rattle.std.proofs.Common.{List, sym, subst}
-use Rattle.wm_law.specs.declared.call.Entry.{Entry}
+use Rattle.std.proofs.Common.{sym, subst}
 use Rattle.wm_floor.specs.Lists.{since}
 use Rattle.wm_run.specs.Grown.{session_of}
-use Rattle.wm_run.specs.Serving.{IsHistory}
 use Rattle.wm_run.specs.Session.{Closes}
 use Rattle.wm_run.proofs.Servings.{serves_none}
 use Rattle.wm_run.proofs.Wholes.{uncalled_rest}

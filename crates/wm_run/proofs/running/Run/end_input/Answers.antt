@@ -1,6 +1,5 @@
-use Rattle.std.proofs.Common.{◌≡◌, ◌≤◌, List, length, sym, subst, ap, ◌∙◌, arith}
+use Rattle.std.proofs.Common.{subst, arith}
 use Rattle.wm_base.proofs.Lists.{on_err}
-use Rattle.wm_law.specs.declared.call.Entry.{Entry}
 use Rattle.wm_floor.specs.Floor.{Floored, HasLooked, Seen}
 use Rattle.wm_floor.specs.Scene.{spawner_seen}
 use Rattle.wm_run.specs.Calls.{Called}

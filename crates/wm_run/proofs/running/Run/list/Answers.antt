@@ -1,4 +1,4 @@
-use Rattle.std.proofs.Common.{◌≡◌, List, ℕ, sym, subst, ap, ◌∙◌, inl, inr, refl, take}
+use Rattle.std.proofs.Common.{List, ℕ, subst, inl, inr, take}
 use Rattle.wm_base.proofs.Lists.{on_err}
 use Rattle.wm_traits.specs.Told.{Grows}
 use Rattle.wm_run.proofs.Listings.{reads, uncalled_looked}

@@ -1,4 +1,4 @@
-use Rattle.std.proofs.Common.{rules, ◌≡◌, ℕ, length, arith, refl, sym, ap, ◌∙◌, subst}
+use Rattle.std.proofs.Common.{rules, ◌≡◌, length, arith, refl, sym, ap, ◌∙◌, subst}
 use Rattle.wm_turn.specs.Passed.{Passed}
 use Rattle.wm_turn.proofs.Laid.{stands_idle}
 use Rattle.wm_turn.proofs.Passes.{closes, has_value, stood, Stood}

@@ -1,4 +1,4 @@
-use Rattle.std.proofs.Common.{rules, ◌≡◌, ℕ, List, [], ◌∷◌, Option, Some, ap, sym, subst}
+use Rattle.std.proofs.Common.{rules, ◌≡◌, List, [], ◌∷◌, Option, Some, ap, sym, subst}
 use Rattle.atomic_table.specs.Table.{opening}
 use Rattle.wm_turn.specs.Rule.{Ruled}
 use Rattle.wm_turn.specs.Views.{first_view}
