@@ -49,7 +49,7 @@ pub(crate) fn note(touched: &mut Vec<Touched>, job: &Job)
 }
 
 impl JobTable {
-    ghost use Rattle.std.specs.Prelude.{◌≡◌, ◌≤◌, length, take, filter};
+    ghost use Rattle.std.specs.Prelude.{◌≡◌, ◌≤◌, [], length, take, filter};
     ghost use Rattle.wm_jobs.specs.Marked.{undone, is_untouched};
     ghost use Rattle.wm_jobs.specs.Table.{present, IsReady};
 
@@ -63,6 +63,7 @@ impl JobTable {
         ensures changes { self.new.changes ≡ self.old.changes }
         ensures ready { IsReady self.old → IsReady self.new }
         ensures marked { self.new.marked ≡ present self.old }
+        ensures touched { self.new.touched ≡ [] }
     {
         // `len` tells that places differ.
         self.waiting.len();
