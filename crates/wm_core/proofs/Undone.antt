@@ -1,53 +1,41 @@
 -- A step that is taken back leaves the state before it.
-use Rattle.std.proofs.Common.{◌≡◌, ◌∙◌, ◌==◌, ◌||◌, ℕ, Bool, true, false, cond, List, [], ◌∷◌, find, Option, Some, None, is_some, refl, ap, sym}
+use Rattle.std.proofs.Common.{◌≡◌, ◌⊎◌, ◌∙◌, ◌==◌, ℕ, Bool, true, false, cond, List, find, Option, Some, None, refl, ap, sym, subst, inl, inr}
 use Rattle.wm_base.proofs.Iterate.{iterate-keeps}
 use Rattle.wm_base.specs.declared.qname.QName.{QName}
 use Rattle.wm_base.specs.declared.refusal.Kind.{Kind}
 use Rattle.wm_base.specs.declared.refusal.Kind.TheVariants as kind
-use Rattle.wm_base.specs.declared.refusal.Refusal.{Refusal}
-use Rattle.wm_base.specs.declared.refusal.Refusal.TheVariants.{Exists, NoJob, TableFull}
 use Rattle.wm_base.specs.declared.job.Class.{Class}
 use mathlib.Core.Bool.{true≢false}
-use Rattle.wm_base.proofs.Tests.{or_second}
+use Rattle.wm_base.proofs.Tests.{Some-injective}
 use Rattle.wm_desc.specs.declared.description.Jobd.{Jobd}
 use Rattle.wm_desc.specs.declared.description.Jobq.{Jobq}
 use Rattle.wm_desc.specs.declared.description.Program.{Program}
 use Rattle.wm_desc.specs.declared.description.Sbsd.{Sbsd}
 use Rattle.wm_desc.specs.declared.objects.Objects.{Objects}
-use Rattle.wm_desc.specs.Objects.{empty_sbsd, with_description}
-use Rattle.wm_desc.specs.Refusals.{is_full, object_refusal, program_refusal}
-use Rattle.wm_desc.proofs.Tables.{test_fails}
-use Rattle.wm_desc.specs.Table.{has_object, object_named, is_qcmd}
+use Rattle.wm_desc.specs.Objects.{with_description, with_object}
+use Rattle.wm_desc.specs.Sorted.{removed}
+use Rattle.wm_desc.specs.Table.{has_object, name_of, object_named, same_qname}
 use Rattle.wm_law.specs.declared.call.Call.{Call}
-use Rattle.wm_law.specs.declared.call.Call.TheVariants.{Change}
 use Rattle.wm_law.specs.declared.choice.Candidate.{Candidate}
-use Rattle.wm_law.specs.declared.command.Crtcls.{Crtcls}
-use Rattle.wm_law.specs.declared.command.Crtjobd.{Crtjobd}
-use Rattle.wm_law.specs.declared.command.Crtjobq.{Crtjobq}
-use Rattle.wm_law.specs.declared.command.Crtpgmref.{Crtpgmref}
-use Rattle.wm_law.specs.declared.command.Crtsbsd.{Crtsbsd}
-use Rattle.wm_law.specs.declared.command.Command.{Command}
-use Rattle.wm_law.specs.declared.command.Command.TheVariants as command
+use Rattle.wm_law.specs.declared.configured.Configured.{Configured}
+use Rattle.wm_law.specs.declared.configured.Configured.TheVariants as thing
 use Rattle.wm_law.specs.declared.job.Job.{Job}
 use Rattle.wm_law.specs.declared.state.Evoke.{Evoke}
 use Rattle.wm_law.specs.declared.state.Sbs.{Sbs}
 use Rattle.wm_law.specs.declared.state.Stop.{Stop}
 use Rattle.wm_law.specs.declared.state.State.{State}
-use Rattle.wm_jobs.specs.Marked.{Marked}
-use Rattle.wm_law.specs.Choice.{is_held}
+use Rattle.wm_law.specs.Configured.{configured_by, is_there}
 use Rattle.wm_law.specs.Launch.{with_routed}
-use Rattle.wm_law.specs.Machine.{apply, change, step, with_clock}
-use Rattle.wm_law.specs.Making.{class_of, jobd_of, made_unless, make_class, make_description, make_job_description, make_program, make_queue}
+use Rattle.wm_law.specs.Machine.{apply, step, with_clock}
 use Rattle.wm_law.specs.Objects.{AreSound}
-use Rattle.wm_law.specs.Queues.{hold_queue, release_queue}
 use Rattle.wm_law.specs.Settling.{come_due, leave, ready, settle, waiting}
-use Rattle.wm_law.specs.Stepped.{Stepped}
-use Rattle.wm_law.proofs.Aside.{IsAside, call_is_aside}
-use Rattle.wm_law.proofs.Objects.{new_object}
+use Rattle.wm_law.proofs.Aside.{IsLeft, aside_by, call_leaves}
 use Rattle.wm_law.proofs.Supplies.{supplied_keeps}
+use Rattle.wm_law.proofs.Things.{IsMore, IsOf, IsWith}
+use Rattle.wm_jobs.specs.Marked.{Marked}
 use Rattle.wm_making.specs.declared.saved.Saved.{Saved}
-use Rattle.wm_making.specs.declared.saved.Saved.TheVariants.{Nothing, New, Description, Held}
-use Rattle.wm_making.specs.Saved.{described, old_held, old_objects, saved_by, saved_object, saved_of, without_object}
+use Rattle.wm_making.specs.declared.saved.Saved.TheVariants.{Nothing, New, Description}
+use Rattle.wm_making.specs.Saved.{described, old_held, old_objects, saved_as, saved_of, saved_where, without_object}
 use Rattle.wm_making.proofs.PutBack.{added_removed, changed_back, none_changed, none_removed, own_back}
 use Rattle.wm_core.specs.declared.mark.Mark.{Mark}
 use Rattle.wm_core.specs.Aside.{Aside, aside_of}
@@ -59,146 +47,59 @@ pub record IsBack (saved : Saved) (s t : State) : Type 0 where
   pub held : old_held saved t.held ≡ s.held
   pub offset : t.offset_min ≡ s.offset_min
 
-module _ (P : Stepped → Type 0) where
-  either : (b : Bool) (t u : Stepped) → P t → P u → P (cond b t u)
-  either true t u h k = h
-  either false t u h k = k
-
 module _ (s : State) where
-  -- a call that configures nothing keeps nothing of them
-  like : (t : State) → IsAside s t → IsBack Nothing s t
-  like t a = record { objects = a.objects; held = a.held; offset = a.offset }
+  -- objects with one more are as they were without it
+  module _ {V : Type 0} (kind : Kind) (name : QName) (objects : List (QName × V)) (put : List (QName × V) → Objects) (takes : (l : List (QName × V)) → without_object kind name (put l) ≡ put (removed name_of same_qname name l)) (is : put objects ≡ s.objects) where
+    out : (u : Objects) → (u ≡ s.objects) ⊎ IsMore name objects put u → has_object name objects ≡ false → without_object kind name u ≡ s.objects
+    out u (inl same) new = ap (without_object kind name) (same ∙ sym is) ∙ (takes objects ∙ (ap put (none_removed name objects new) ∙ is))
+    out u (inr more) new = ap (without_object kind name) more.1 ∙ (takes (with_object name more.0 objects) ∙ (ap put (added_removed name more.0 objects new) ∙ is))
 
-  abbrev Held_back : Stepped → Type 0
-  Held_back t = IsBack (Held s.held) s t.state
+  taken_out : (k : Kind) (name : QName) (u : Objects) → (u ≡ s.objects) ⊎ IsWith k name s.objects u → is_there k name s.objects ≡ false → without_object k name u ≡ s.objects
+  taken_out kind.Cls name u with_it new = out {V = Class} kind.Cls name s.objects.classes (λ l. record s.objects { classes = l }) (λ l. refl) refl u with_it new
+  taken_out kind.Jobq name u with_it new = out {V = Jobq} kind.Jobq name s.objects.jobqs (λ l. record s.objects { jobqs = l }) (λ l. refl) refl u with_it new
+  taken_out kind.Pgm name u with_it new = out {V = Program} kind.Pgm name s.objects.programs (λ l. record s.objects { programs = l }) (λ l. refl) refl u with_it new
+  taken_out kind.Jobd name u with_it new = out {V = Jobd} kind.Jobd name s.objects.jobds (λ l. record s.objects { jobds = l }) (λ l. refl) refl u with_it new
+  taken_out kind.Sbsd name u with_it new = out {V = Sbsd} kind.Sbsd name s.objects.sbsds (λ l. record s.objects { sbsds = l }) (λ l. refl) refl u with_it new
+  taken_out k name u with_it new = absurd (cc)
 
-  -- whatever becomes of the held queues, they are put back
-  held_like : (held : List QName) → IsBack (Held s.held) s (record s { held = held })
-  held_like held = record { objects = refl; held = refl; offset = refl }
+  -- an object that came is taken out, and one that was there stays
+  object_back : (k : Kind) (name : QName) (there : Bool) (u : State) → is_there k name s.objects ≡ there → (u.objects ≡ s.objects) ⊎ IsOf (thing.Object k name) s.objects u.objects → u.held ≡ s.held → u.offset_min ≡ s.offset_min → IsBack (cond there Nothing (New k name)) s u
+  object_back k name true u e (inl same) held offset = record { objects = same; held = held; offset = offset }
+  object_back k name true u e (inr made) held offset = absurd (true≢false (sym e ∙ made.0))
+  object_back k name false u e (inl same) held offset = record { objects = taken_out k name u.objects (inl same) e; held = held; offset = offset }
+  object_back k name false u e (inr made) held offset = record { objects = taken_out k name u.objects (inr made.1) e; held = held; offset = offset }
 
-  queue_held : (q : QName) → Held_back (hold_queue s q)
-  queue_held q =
-      either Held_back (is_some (object_named q s.objects.jobqs)) _ _
-      (either Held_back (is_held s q) _ _ (held_like s.held) (held_like _))
-      (held_like s.held)
+  -- a description is put back
+  description_back : AreSound s.objects → (name : QName) (o : Option Sbsd) (u : State) → object_named name s.objects.sbsds ≡ o → (u.objects ≡ s.objects) ⊎ IsOf (thing.Description name) s.objects u.objects → u.held ≡ s.held → u.offset_min ≡ s.offset_min → IsBack (described name o) s u
+  description_back sound name None u e (inl same) held offset = record { objects = same; held = held; offset = offset }
+  description_back sound name None u e (inr made) held offset = record { objects = made.1 ∙ ap (λ (l : List (QName × Sbsd)). record s.objects { sbsds = l }) (none_changed name made.0 s.objects.sbsds e); held = held; offset = offset }
+  description_back sound name (Some d) u e (inl same) held offset =
+      record { objects = ap (with_description name (λ _. d)) same ∙ ap (λ (l : List (QName × Sbsd)). record s.objects { sbsds = l }) (own_back name d s.objects.sbsds sound.tables.sbsds.sorted e); held = held; offset = offset }
+  description_back sound name (Some d) u e (inr made) held offset =
+      record { objects = ap (with_description name (λ _. d)) made.1 ∙ ap (λ (l : List (QName × Sbsd)). record s.objects { sbsds = l }) (changed_back name made.0 d s.objects.sbsds sound.tables.sbsds.sorted e); held = held; offset = offset }
 
-  queue_released : (q : QName) → Held_back (release_queue s q)
-  queue_released q =
-      either Held_back (is_some (object_named q s.objects.jobqs)) _ _
-      (either Held_back (is_held s q) _ _ (held_like _) (held_like s.held))
-      (held_like s.held)
+  -- what is configured is put back
+  back_by : AreSound s.objects → (c : Configured) (u : State) → (u.objects ≡ s.objects) ⊎ IsOf c s.objects u.objects → (u.held ≡ s.held) ⊎ (Some c ≡ Some thing.HeldQueues) → u.offset_min ≡ s.offset_min → IsBack (saved_as c s.objects s.held) s u
+  back_by sound (thing.Object k name) u was (inl held) offset = object_back k name (is_there k name s.objects) u refl was held offset
+  back_by sound (thing.Object k name) u was (inr none) offset = absurd (cc)
+  back_by sound (thing.Description name) u was (inl held) offset = description_back sound name (object_named name s.objects.sbsds) u refl was held offset
+  back_by sound (thing.Description name) u was (inr none) offset = absurd (cc)
+  back_by sound thing.HeldQueues u (inl same) held offset = record { objects = same; held = refl; offset = offset }
+  back_by sound thing.HeldQueues u (inr none) held offset = absurd none
 
-  -- objects that were made, or weren't, are put back
-  made : (saved : Saved) (objects : Objects) (o : Option Refusal) → old_objects saved s.objects ≡ s.objects → (o ≡ None → old_objects saved objects ≡ s.objects) → ((held : List QName) → old_held saved held ≡ held) → IsBack saved s (made_unless s objects o).state
-  made saved objects None stay back held = record { objects = back refl; held = held s.held; offset = refl }
-  made saved objects (Some x) stay back held = record { objects = stay; held = held s.held; offset = refl }
+  own_of : (c d : Configured) (u : Objects) → Some c ≡ Some d → IsOf d s.objects u → IsOf c s.objects u
+  own_of c d u e is = subst (λ (x : Configured). IsOf x s.objects u) (sym (Some-injective c d e)) is
 
-  made_object : (kind : Kind) (name : QName) (b has : Bool) → has ≡ b → (objects : Objects) (o : Option Refusal) → (o ≡ None → has ≡ false) → (has ≡ false → without_object kind name s.objects ≡ s.objects)
-      → (has ≡ false → without_object kind name objects ≡ s.objects) → IsBack (cond b Nothing (New kind name)) s (made_unless s objects o).state
-  made_object kind name true has e objects o new stay back = made Nothing objects o refl (λ n. absurd (true≢false (sym e ∙ new n))) (λ h. refl)
-  made_object kind name false has e objects o new stay back = made (New kind name) objects o (stay e) (λ n. back e) (λ h. refl)
-
-  redescribed : AreSound s.objects → (name : QName) (f : Sbsd → Sbsd) (o : Option Sbsd) (r : Option Refusal) → object_named name s.objects.sbsds ≡ o → IsBack (described name o) s (made_unless s (with_description name f s.objects) r).state
-  redescribed sound name f None r e =
-      made Nothing (with_description name f s.objects) r refl (λ n. ap (λ (l : List (QName × Sbsd)). record s.objects { sbsds = l }) (none_changed name f s.objects.sbsds e)) (λ h. refl)
-  redescribed sound name f (Some d) r e =
-      made (Description name d) (with_description name f s.objects) r
-      (ap (λ (l : List (QName × Sbsd)). record s.objects { sbsds = l }) (own_back name d s.objects.sbsds sound.tables.sbsds.sorted e))
-      (λ n. ap (λ (l : List (QName × Sbsd)). record s.objects { sbsds = l }) (changed_back name f d s.objects.sbsds sound.tables.sbsds.sorted e))
-      (λ h. refl)
-
-  new_program : (name : QName) (programs : List (QName × Program)) → program_refusal name programs ≡ None → has_object name programs ≡ false
-  new_program name programs none = or_second (is_qcmd name) (has_object name programs) (test_fails ((is_qcmd name || has_object name programs, Exists kind.Pgm) ∷ (is_full 1000 programs, TableFull kind.Pgm 1000) ∷ []) 0 (Exists kind.Pgm) none)
-
-  class_made : (c : Crtcls) → IsBack (saved_object kind.Cls c.cls s.objects.classes) s (make_class s c).state
-  class_made c =
-      let put = λ (l : List (QName × Class)). record s.objects { classes = l } in
-      made_object kind.Cls c.cls (has_object c.cls s.objects.classes) (has_object c.cls s.objects.classes) refl _ (object_refusal kind.Cls c.cls s.objects.classes) (new_object kind.Cls c.cls s.objects.classes)
-      (λ e. ap put (none_removed c.cls s.objects.classes e)) (λ e. ap put (added_removed c.cls (class_of c) s.objects.classes e))
-
-  queue_made : (c : Crtjobq) → IsBack (saved_object kind.Jobq c.jobq s.objects.jobqs) s (make_queue s c).state
-  queue_made c =
-      let put = λ (l : List (QName × Jobq)). record s.objects { jobqs = l } in
-      made_object kind.Jobq c.jobq (has_object c.jobq s.objects.jobqs) (has_object c.jobq s.objects.jobqs) refl _ (object_refusal kind.Jobq c.jobq s.objects.jobqs) (new_object kind.Jobq c.jobq s.objects.jobqs)
-      (λ e. ap put (none_removed c.jobq s.objects.jobqs e)) (λ e. ap put (added_removed c.jobq (record {}) s.objects.jobqs e))
-
-  program_made : (c : Crtpgmref) → IsBack (saved_object kind.Pgm c.pgm s.objects.programs) s (make_program s c).state
-  program_made c =
-      let put = λ (l : List (QName × Program)). record s.objects { programs = l } in
-      made_object kind.Pgm c.pgm (has_object c.pgm s.objects.programs) (has_object c.pgm s.objects.programs) refl _ (program_refusal c.pgm s.objects.programs) (new_program c.pgm s.objects.programs)
-      (λ e. ap put (none_removed c.pgm s.objects.programs e)) (λ e. ap put (added_removed c.pgm (record { path = c.path }) s.objects.programs e))
-
-  job_description_made : (c : Crtjobd) → IsBack (saved_object kind.Jobd c.jobd s.objects.jobds) s (make_job_description s c).state
-  job_description_made c =
-      let put = λ (l : List (QName × Jobd)). record s.objects { jobds = l } in
-      made_object kind.Jobd c.jobd (has_object c.jobd s.objects.jobds) (has_object c.jobd s.objects.jobds) refl _ (object_refusal kind.Jobd c.jobd s.objects.jobds) (new_object kind.Jobd c.jobd s.objects.jobds)
-      (λ e. ap put (none_removed c.jobd s.objects.jobds e)) (λ e. ap put (added_removed c.jobd (jobd_of c) s.objects.jobds e))
-
-  description_made : (c : Crtsbsd) → IsBack (saved_object kind.Sbsd c.sbsd s.objects.sbsds) s (make_description s c).state
-  description_made c =
-      let put = λ (l : List (QName × Sbsd)). record s.objects { sbsds = l } in
-      made_object kind.Sbsd c.sbsd (has_object c.sbsd s.objects.sbsds) (has_object c.sbsd s.objects.sbsds) refl _ (object_refusal kind.Sbsd c.sbsd s.objects.sbsds) (new_object kind.Sbsd c.sbsd s.objects.sbsds)
-      (λ e. ap put (none_removed c.sbsd s.objects.sbsds e)) (λ e. ap put (added_removed c.sbsd (empty_sbsd c.maxjobs) s.objects.sbsds e))
-
-  changed : AreSound s.objects → (user : List ℕ) (c : Command) → IsBack (saved_by s.objects s.held c) s (change s user c).state
-  changed sound user (command.Crtcls c) = class_made c
-  changed sound user (command.Crtjobq c) = queue_made c
-  changed sound user (command.Crtpgmref c) = program_made c
-  changed sound user (command.Crtjobd c) = job_description_made c
-  changed sound user (command.Crtsbsd c) = description_made c
-  changed sound user (command.Addjobqe c) = redescribed sound c.sbsd _ (object_named c.sbsd s.objects.sbsds) _ refl
-  changed sound user (command.Addrtge c) = redescribed sound c.sbsd _ (object_named c.sbsd s.objects.sbsds) _ refl
-  changed sound user (command.Addaje c) = redescribed sound c.sbsd _ (object_named c.sbsd s.objects.sbsds) _ refl
-  changed sound user (command.Addpje c) = redescribed sound c.sbsd _ (object_named c.sbsd s.objects.sbsds) _ refl
-  changed sound user (command.Rmvjobqe c) = redescribed sound c.sbsd _ (object_named c.sbsd s.objects.sbsds) _ refl
-  changed sound user (command.Rmvrtge c) = redescribed sound c.sbsd _ (object_named c.sbsd s.objects.sbsds) _ refl
-  changed sound user (command.Rmvaje c) = redescribed sound c.sbsd _ (object_named c.sbsd s.objects.sbsds) _ refl
-  changed sound user (command.Rmvpje c) = redescribed sound c.sbsd _ (object_named c.sbsd s.objects.sbsds) _ refl
-  changed sound user (command.Hldjobq c) = queue_held c.jobq
-  changed sound user (command.Rlsjobq c) = queue_released c.jobq
-  changed sound user c = like (change s user c).state (call_is_aside s 0 (Change user c) refl)
+  left_back : AreSound s.objects → (c : Option Configured) (u : State) → IsLeft c s u → IsBack (saved_where c s.objects s.held) s u
+  left_back sound None u l = (let a = aside_by None s u refl l in record { objects = a.objects; held = a.held; offset = a.offset })
+  left_back sound (Some c) u l = back_by sound c u (elim l.objects as (λ _. (u.objects ≡ s.objects) ⊎ IsOf c s.objects u.objects) [ inl same ↦ inl same | inr is ↦ inr (own_of c is.0 u.objects is.1 is.2) ]) l.held l.offset
 
   called : AreSound s.objects → (caller : ℕ) (call : Call) → IsBack (saved_of s.objects s.held call) s (apply s caller call).state
-  called sound caller (Change user c) = changed sound user c
-  called sound caller call = like (apply s caller call).state (call_is_aside s caller call refl)
+  called sound caller call = left_back sound (configured_by call) (apply s caller call).state (call_leaves s call caller)
 
   -- what is kept as a call begins leads back from the state itself
-  kept_by : AreSound s.objects → (c : Command) → IsBack (saved_by s.objects s.held c) s s
-  kept_by sound (command.Crtcls c) =
-      let stays : has_object c.cls s.objects.classes ≡ false → without_object kind.Cls c.cls s.objects ≡ s.objects =
-      λ e. ap (λ (l : List (QName × Class)). record s.objects { classes = l }) (none_removed c.cls s.objects.classes e) in
-      made_object kind.Cls c.cls (has_object c.cls s.objects.classes) (has_object c.cls s.objects.classes) refl s.objects (Some NoJob) (λ n. absurd (cc)) stays stays
-  kept_by sound (command.Crtjobq c) =
-      let stays : has_object c.jobq s.objects.jobqs ≡ false → without_object kind.Jobq c.jobq s.objects ≡ s.objects =
-      λ e. ap (λ (l : List (QName × Jobq)). record s.objects { jobqs = l }) (none_removed c.jobq s.objects.jobqs e) in
-      made_object kind.Jobq c.jobq (has_object c.jobq s.objects.jobqs) (has_object c.jobq s.objects.jobqs) refl s.objects (Some NoJob) (λ n. absurd (cc)) stays stays
-  kept_by sound (command.Crtpgmref c) =
-      let stays : has_object c.pgm s.objects.programs ≡ false → without_object kind.Pgm c.pgm s.objects ≡ s.objects =
-      λ e. ap (λ (l : List (QName × Program)). record s.objects { programs = l }) (none_removed c.pgm s.objects.programs e) in
-      made_object kind.Pgm c.pgm (has_object c.pgm s.objects.programs) (has_object c.pgm s.objects.programs) refl s.objects (Some NoJob) (λ n. absurd (cc)) stays stays
-  kept_by sound (command.Crtjobd c) =
-      let stays : has_object c.jobd s.objects.jobds ≡ false → without_object kind.Jobd c.jobd s.objects ≡ s.objects =
-      λ e. ap (λ (l : List (QName × Jobd)). record s.objects { jobds = l }) (none_removed c.jobd s.objects.jobds e) in
-      made_object kind.Jobd c.jobd (has_object c.jobd s.objects.jobds) (has_object c.jobd s.objects.jobds) refl s.objects (Some NoJob) (λ n. absurd (cc)) stays stays
-  kept_by sound (command.Crtsbsd c) =
-      let stays : has_object c.sbsd s.objects.sbsds ≡ false → without_object kind.Sbsd c.sbsd s.objects ≡ s.objects =
-      λ e. ap (λ (l : List (QName × Sbsd)). record s.objects { sbsds = l }) (none_removed c.sbsd s.objects.sbsds e) in
-      made_object kind.Sbsd c.sbsd (has_object c.sbsd s.objects.sbsds) (has_object c.sbsd s.objects.sbsds) refl s.objects (Some NoJob) (λ n. absurd (cc)) stays stays
-  kept_by sound (command.Addjobqe c) = redescribed sound c.sbsd (λ d. d) (object_named c.sbsd s.objects.sbsds) (Some NoJob) refl
-  kept_by sound (command.Addrtge c) = redescribed sound c.sbsd (λ d. d) (object_named c.sbsd s.objects.sbsds) (Some NoJob) refl
-  kept_by sound (command.Addaje c) = redescribed sound c.sbsd (λ d. d) (object_named c.sbsd s.objects.sbsds) (Some NoJob) refl
-  kept_by sound (command.Addpje c) = redescribed sound c.sbsd (λ d. d) (object_named c.sbsd s.objects.sbsds) (Some NoJob) refl
-  kept_by sound (command.Rmvjobqe c) = redescribed sound c.sbsd (λ d. d) (object_named c.sbsd s.objects.sbsds) (Some NoJob) refl
-  kept_by sound (command.Rmvrtge c) = redescribed sound c.sbsd (λ d. d) (object_named c.sbsd s.objects.sbsds) (Some NoJob) refl
-  kept_by sound (command.Rmvaje c) = redescribed sound c.sbsd (λ d. d) (object_named c.sbsd s.objects.sbsds) (Some NoJob) refl
-  kept_by sound (command.Rmvpje c) = redescribed sound c.sbsd (λ d. d) (object_named c.sbsd s.objects.sbsds) (Some NoJob) refl
-  kept_by sound (command.Hldjobq c) = held_like s.held
-  kept_by sound (command.Rlsjobq c) = held_like s.held
-  kept_by sound c = record { objects = refl; held = refl; offset = refl }
-
   kept : AreSound s.objects → (call : Call) → IsBack (saved_of s.objects s.held call) s s
-  kept sound (Change user c) = kept_by sound c
-  kept sound call = record { objects = refl; held = refl; offset = refl }
+  kept sound call = left_back sound (configured_by call) s (record { objects = inl refl; held = inl refl; offset = refl })
 
 module _ (saved : Saved) (s : State) where
   launched : (t : State) (c : Candidate) (o : Option Job) → IsBack saved s t → IsBack saved s (with_routed t c o)

@@ -70,6 +70,7 @@ pub mod Subsystems
 pub mod Supplies
 pub mod Tables
 pub mod TheirJobs
+pub mod Things
 pub mod Turns
 pub mod Usable
 pub mod UsesUp

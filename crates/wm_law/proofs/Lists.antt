@@ -134,7 +134,7 @@ lists_called s call places h = record {
   enters = λ user c d due has fit. h;
   alters = λ reply change place p a fit. h;
   holds = λ reply held p a told fit. h;
-  ends = λ reply change started stopped evokes power p e told. (
+  ends = λ reply change started stopped evokes power p e told kept. (
       let new = called_lists s stopped evokes places h in
       lists_still (record s { stopped = stopped.stops; evokes = evokes.requests }) started s.objects (λ how. ending s started how e.subsystems) new);
   uses = λ reply change p u. h;

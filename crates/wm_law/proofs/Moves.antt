@@ -39,7 +39,10 @@ use Rattle.wm_law.specs.declared.command.Chgjob.{Chgjob}
 use Rattle.wm_law.specs.declared.command.Endjob.{Endjob}
 use Rattle.wm_law.specs.declared.command.Endsbs.{Endsbs}
 use Rattle.wm_law.specs.declared.command.JobRef.{JobRef}
+use Rattle.wm_law.specs.declared.command.Pwrdwnsys.{Pwrdwnsys}
 use Rattle.wm_law.specs.declared.command.Sbmjob.{Sbmjob}
+use Rattle.wm_law.specs.declared.configured.Configured.{Configured}
+use Rattle.wm_law.specs.declared.configured.Configured.TheVariants.{Object, Description, HeldQueues}
 use Rattle.wm_law.specs.declared.job.Job.{Job}
 use Rattle.wm_law.specs.declared.job.Phase.{Phase}
 use Rattle.wm_law.specs.declared.job.Phase.TheVariants.{Waiting, Starting, Handed, Running, Ended}
@@ -60,7 +63,8 @@ use Rattle.wm_law.specs.Kept.{IsEndOn, is_start_fault, phase_rank, IsNumbered}
 use Rattle.wm_law.specs.Launch.{order_of, launch, pre_entry_for}
 use Rattle.wm_law.specs.Laws.{IsIn}
 use Rattle.wm_law.specs.Machine.{apply, step, with_clock, change}
-use Rattle.wm_law.specs.Making.{made_unless}
+use Rattle.wm_law.specs.Making.{made_unless, class_of, jobd_of, queue_entry_of, route_entry_of, auto_entry_of, pre_entry_of}
+use Rattle.wm_desc.specs.Objects.{empty_sbsd, with_auto, with_pre, with_queue, with_route, without_auto, without_pre, without_queue, without_route}
 use Rattle.wm_law.specs.Endings.{down_by, end_active, end_found, end_in_phase, end_started, is_down, is_ending_by, is_wished, job_wish, started_named, is_of_those}
 use Rattle.wm_law.specs.Power.{is_on}
 use Rattle.wm_law.specs.Reports.{in_phase, with_phase, hand_job, hand_order, is_to_kill, report_on, start_job, stops_after, is_handed_to, is_run_by, is_unused, phase_word, end_cause, exit_cause, with_kill}
@@ -76,14 +80,16 @@ use Rattle.wm_law.specs.Jobs.{active_at, waiting_at, with_active}
 use Rattle.wm_law.specs.Wishes.{greatest_moment, now_cause, why_cause, with_wish}
 use Rattle.wm_law.specs.Fit.{IsCall, IsExit, IsJobChange, IsQName, IsSubmission}
 use Rattle.wm_law.specs.Ranges.{AreInRange, IsCause}
-use Rattle.wm_law.specs.CallKinds.{is_configuring_call, is_ending_call}
+use Rattle.wm_law.specs.CallKinds.{is_ending_call}
+use Rattle.wm_law.specs.Configured.{configured_by}
 use Rattle.wm_law.specs.Choice.{is_held, is_sbs_active, next}
 use Rattle.wm_law.proofs.Alterations.{IsAlteration, IsHolding, IsPlain, KeepAll, altered, clearing_alters, clearing_keeps, due_alters, due_keeps, ending_alters, ending_keeps, holding_alters, holding_keeps, moving_alters, moving_keeps, plain_changed, plain_cleared, plain_held, plain_job_ended, plain_job_ending, plain_power_down, plain_sbs_ending, plain_queue_held, plain_queue_released, plain_released, plain_pre_ending, plain_evoked, plain_use_ended, plain_noted}
 use Rattle.wm_law.proofs.Endings.{IsEnding, all_end, coming_due, job_ends, kill_ends, those_end, wished, use_ends, use_done_ends, entry_ends}
 use Rattle.wm_law.specs.Subsystems.{begun, is_started, max_started, start_refusal, start_unless, started_up, with_autos}
 use Rattle.wm_law.proofs.Members.{found_among, last_in, left_in}
 use Rattle.wm_law.proofs.Supplies.{IsActiveAmong, IsSupplied, firsts_keep, supplied_keeps, made_keeps, IsAssignable, idle_found}
-use Rattle.wm_law.proofs.Objects.{IsObjectChange, class_made, queue_made, program_made, job_description_made, description_made, queue_added, route_added, auto_added, pre_added, queue_removed, route_removed, auto_removed, pre_removed}
+use Rattle.wm_law.proofs.Things.{IsConfigured, IsOf}
+use Rattle.wm_law.proofs.Objects.{IsObjectChange, new_object, new_program, class_made, queue_made, program_made, job_description_made, description_made, queue_added, route_added, auto_added, pre_added, queue_removed, route_removed, auto_removed, pre_removed}
 use Rattle.std.specs.Cmp.Lexicographic.{pointwise}
 use Rattle.wm_desc.specs.declared.description.Sbsd.{Sbsd}
 use Rattle.wm_desc.specs.declared.entry.PreEntry.{PreEntry}
@@ -181,6 +187,13 @@ AreDue s = (j : Job) → IsIn j s.jobs → j.due ≤ greatest_moment
 abbrev pub IsEvokeCall : Call → Type 0
 IsEvokeCall call = (user : List ℕ) × (c : EvokeCommand) × (call ≡ Change user (command.Evoke c))
 
+-- the call is a PWRDWNSYS that is accepted
+pub record IsPutDown (call : Call) (reply : Reply) : Type 0 where
+  pub user : List ℕ
+  pub c : Pwrdwnsys
+  pub call_is : call ≡ Change user (command.Pwrdwnsys c)
+  pub reply_is : reply ≡ PowerDown
+
 -- P holds of whatever the call can come to: of its reply, and of the state before it settles. Values of the call that go into the state keep their ranges, where the call's do
 pub record HoldsAfterCalls (P : Stepped → Type 0) (s : State) (call : Call) : Type 0 where
   pub refuses : (x : Refusal) → P (refused s x)
@@ -191,13 +204,13 @@ pub record HoldsAfterCalls (P : Stepped → Type 0) (s : State) (call : Call) : 
   pub starts : (q : QName) → IsStartable s q → P (start_unless s q None)
   pub enters : (user : List ℕ) (c : Sbmjob) (d : Jobd) (due : ℕ) → IsAcceptable s c d due → (IsCall call → IsName user × IsSubmission c) → P (record { reply = Submitted (job_name s user c) (queue_of c d); state = entered s (submitted_job s user c d due) })
   pub alters : (reply : Reply) (change : Job → Job) (place : ℕ) → IsPlain reply → IsAlteration s change place → (IsCall call → AreDue s → KeepAll s change) → P (record { reply = reply; state = altered s change place })
-  pub holds : (reply : Reply) (held : List QName) → IsPlain reply → IsHolding s held → is_configuring_call call ≡ true → (IsCall call → (q : QName) → IsIn q held → IsIn q s.held ⊎ IsQName q) → P (record { reply = reply; state = record s { held = held } })
-  pub ends : (reply : Reply) (change : Job → Job) (started : List Sbs) (stopped : StopsOn s) (evokes : RequestsOn s) (power : Power) → IsPlain reply → IsEnding s change started power → is_ending_call call ≡ true → P (record { reply = reply; state = wished s change started stopped.stops evokes.requests power })
+  pub holds : (reply : Reply) (held : List QName) → IsPlain reply → IsHolding s held → configured_by call ≡ Some HeldQueues → (IsCall call → (q : QName) → IsIn q held → IsIn q s.held ⊎ IsQName q) → P (record { reply = reply; state = record s { held = held } })
+  pub ends : (reply : Reply) (change : Job → Job) (started : List Sbs) (stopped : StopsOn s) (evokes : RequestsOn s) (power : Power) → IsPlain reply → IsEnding s change started power → is_ending_call call ≡ true → (power ≡ s.power) ⊎ IsPutDown call reply → P (record { reply = reply; state = wished s change started stopped.stops evokes.requests power })
   pub uses : (reply : Reply) (change : Job → Job) → IsPlain reply → IsUse s change → P (record { reply = reply; state = wished s change s.started s.stopped s.evokes s.power })
   pub waits : (place : ℕ) (evokes : RequestsOn s) → IsEvokeCall call → P (record { reply = EvokeWaits place; state = record s { evokes = evokes.requests } })
   pub prestarts : (q : QName) (d : Sbsd) (e : PreEntry) → IsPrestartable s q d e → P (record { reply = PreStarted; state = prestarted s q d e })
   pub kills : (m : ℕ) (j : Job) → IsIn j s.jobs → is_to_kill m j ≡ true → P (record { reply = Order (Kill j.serial); state = with_active s j.serial with_kill })
-  pub makes : (o : Objects) → IsObjectChange s o → is_configuring_call call ≡ true → (IsCall call → AreInRange s.objects → AreInRange o) → P (record { reply = Made; state = record s { objects = o } })
+  pub makes : (o : Objects) → IsObjectChange s o → IsConfigured call s.objects o → (IsCall call → AreInRange s.objects → AreInRange o) → P (record { reply = Made; state = record s { objects = o } })
 
 -- EVOKE on an idle job
 using_request : (s : State) (q pgm : QName) (j : Job) → IsAssignable q pgm s j → IsUse s (active_at j.serial with_evoke)
@@ -257,14 +270,14 @@ module _ (P : Stepped → Type 0) (s : State) (call : Call) (h : HoldsAfterCalls
   changed_found c (Err x) fit e = h.refuses x
   changed_found c (Ok j) fit e = either (finds_queue s c.jobq) _ _ (λ t. due_changed c j (rescheduled s j.due c.scddate c.scdtime) fit (among_waiting s c.job j e) refl t) (λ t. h.refuses (NoObject kind.Jobq))
 
-  queue_held : (q : QName) → is_configuring_call call ≡ true → (IsCall call → IsQName q) → P (hold_queue s q)
+  queue_held : (q : QName) → configured_by call ≡ Some HeldQueues → (IsCall call → IsQName q) → P (hold_queue s q)
   queue_held q told fit =
       either (is_some (object_named q s.objects.jobqs)) _ _
       (λ t. either (is_held s q) _ _ (λ u. h.refuses HeldAlready) (λ u. h.holds QueueHeld (added own_name qname_cmp q s.held) plain_queue_held (inl (record { queue = q; is_object = t; new = u; is_with = refl })) told
       (λ f p i. elim (in_inserted s.held (place_of own_name qname_cmp q s.held) q p i) as (λ _. IsIn p s.held ⊎ IsQName p) [ inl same ↦ inr (subst IsQName (sym same) (fit f)) | inr was ↦ inl was ])))
       (λ t. h.refuses (NoObject kind.Jobq))
 
-  queue_released : (q : QName) → is_configuring_call call ≡ true → P (release_queue s q)
+  queue_released : (q : QName) → configured_by call ≡ Some HeldQueues → P (release_queue s q)
   queue_released q told =
       either (is_some (object_named q s.objects.jobqs)) _ _
       (λ t. either (is_held s q) _ _ (λ u. h.holds QueueReleased (removed own_name same_qname q s.held) plain_queue_released (inr (record { queue = q; is_without = refl })) told (λ f p i. inl (left_in (λ (x : QName). not (same_qname x q)) s.held p i))) (λ u. h.refuses NotHeld))
@@ -276,14 +289,14 @@ module _ (P : Stepped → Type 0) (s : State) (call : Call) (h : HoldsAfterCalls
       (λ t. h.alters (QueueCleared (count_by (waits_on q) s.jobs)) (cleared_from q) s.next_place (plain_cleared (count_by (waits_on q) s.jobs)) (clearing_alters s q) (λ fit due. clearing_keeps s q))
       (λ t. h.refuses (NoObject kind.Jobq))
 
-  made : (objects : Objects) (o : Option Refusal) → is_configuring_call call ≡ true → (o ≡ None → IsObjectChange s objects) → (IsCall call → AreInRange s.objects → o ≡ None → AreInRange objects) → P (made_unless s objects o)
-  made objects None told e fit = h.makes objects (e refl) told (λ f r. fit f r refl)
-  made objects (Some x) told e fit = h.refuses x
+  made : (objects : Objects) (o : Option Refusal) (c : Configured) → configured_by call ≡ Some c → (o ≡ None → IsObjectChange s objects) → (o ≡ None → IsOf c s.objects objects) → (IsCall call → AreInRange s.objects → o ≡ None → AreInRange objects) → P (made_unless s objects o)
+  made objects None c told e is fit = h.makes objects (e refl) (c, told, is refl) (λ f r. fit f r refl)
+  made objects (Some x) c told e is fit = h.refuses x
 
   active_ended : (c : Endjob) (j : Job) → is_ending_call call ≡ true → IsIn j s.jobs → P (end_active s c j)
   active_ended c j told i =
       either (is_wished c.option j.wish) _ _ (λ t. h.refuses AlreadyEnding)
-      (λ t. h.ends (JobEnding j.job) (active_at j.serial (with_wish (job_wish s.clock c.option c.delay))) s.started (same_stops s) (same_requests s) s.power (plain_job_ending j.job) (job_ends s j c.option c.delay i t) told)
+      (λ t. h.ends (JobEnding j.job) (active_at j.serial (with_wish (job_wish s.clock c.option c.delay))) s.started (same_stops s) (same_requests s) s.power (plain_job_ending j.job) (job_ends s j c.option c.delay i t) told (inl refl))
 
   ended_in_phase : (c : Endjob) (j : Job) (p : Phase) → is_ending_call call ≡ true → IsIn j s.jobs → P (end_in_phase s c j p)
   ended_in_phase c j Waiting told i = h.alters (JobEnded j.job) (waiting_at j.serial (in_phase (Ended cause.EndedOnQueue))) s.next_place (plain_job_ended j.job) (ending_alters s j.serial) (λ fit due. ending_keeps s j.serial (Ended cause.EndedOnQueue))
@@ -300,7 +313,7 @@ module _ (P : Stepped → Type 0) (s : State) (call : Call) (h : HoldsAfterCalls
   sbs_ended c None told = h.refuses SbsNotActive
   sbs_ended c (Some b) told =
       either (is_ending_by c.option b.phase) _ _ (λ t. h.refuses AlreadyEnding)
-      (λ t. h.ends (SbsEnding b.sbsd) _ _ (same_stops s) (requests_left s (λ e. not (is_of_those (λ x. same_qname x.sbsd b.sbsd) s.started e.sbs))) s.power (plain_sbs_ending b.sbsd) (those_end s c.option c.delay (λ x. same_qname x.sbsd b.sbsd)) told)
+      (λ t. h.ends (SbsEnding b.sbsd) _ _ (same_stops s) (requests_left s (λ e. not (is_of_those (λ x. same_qname x.sbsd b.sbsd) s.started e.sbs))) s.power (plain_sbs_ending b.sbsd) (those_end s c.option c.delay (λ x. same_qname x.sbsd b.sbsd)) told (inl refl))
 
   ordered : (m : ℕ) (j : Job) (o : Option StartOrder) → P (record { reply = Nothing; state = s }) → IsIn j s.jobs → is_starting j.phase ≡ true → order_of s j ≡ o → P (hand_order s m j o)
   ordered m j None none i k e = none
@@ -359,7 +372,7 @@ module _ (P : Stepped → Type 0) (s : State) (call : Call) (h : HoldsAfterCalls
   entry_ends_found c b d None told i k f = h.refuses (NoObject kind.Pje)
   entry_ends_found c b d (Some e) told i k f =
       either (is_stopped s b.sbsd e.pgm && count_from_pre b.sbsd e.pgm s.jobs == 0) _ _ (λ t. h.refuses EntryStopped)
-      (λ t. h.ends PreEnding _ s.started (stop_more s b.sbsd e.pgm (inl (known_by s b d c.pgm e i k f))) (requests_left s (λ x. not (is_evoke_of b.sbsd e.pgm x))) s.power plain_pre_ending (entry_ends s c.option c.delay b.sbsd e.pgm) told)
+      (λ t. h.ends PreEnding _ s.started (stop_more s b.sbsd e.pgm (inl (known_by s b d c.pgm e i k f))) (requests_left s (λ x. not (is_evoke_of b.sbsd e.pgm x))) s.power plain_pre_ending (entry_ends s c.option c.delay b.sbsd e.pgm) told (inl refl))
 
   entry_ends_with : (c : Endpj) (b : Sbs) (o : Option Sbsd) → is_ending_call call ≡ true → IsIn b s.started → object_named b.sbsd s.objects.sbsds ≡ o → P (end_entry_with s c b.sbsd o)
   entry_ends_with c b None told i k = h.refuses (NoObject kind.Pje)
@@ -483,19 +496,19 @@ cause_by : (c d : EndCause) → Ended c ≡ Ended d → IsCause c → IsCause d
 cause_by c d e h = let same : c ≡ d = cc in subst IsCause same h
 
 changed : (P : Stepped → Type 0) (s : State) (user : List ℕ) (c : Command) → HoldsAfterCalls P s (Change user c) → P (change s user c)
-changed P s user (command.Crtcls c) h = made P s _ h _ _ refl (class_made s c) (λ f r n. class_range s.objects r c f.1)
-changed P s user (command.Crtjobq c) h = made P s _ h _ _ refl (queue_made s c) (λ f r n. queue_range s.objects r c f.1)
-changed P s user (command.Crtpgmref c) h = made P s _ h _ _ refl (program_made s c) (λ f r n. program_range s.objects r c f.1 n)
-changed P s user (command.Crtjobd c) h = made P s _ h _ _ refl (job_description_made s c) (λ f r n. jobd_range s.objects r c f.1)
-changed P s user (command.Crtsbsd c) h = made P s _ h _ _ refl (description_made s c) (λ f r n. sbsd_range s.objects r c f.1)
-changed P s user (command.Addjobqe c) h = made P s _ h _ _ refl (queue_added s c) (λ f r n. queue_entry_range s.objects r c f.1)
-changed P s user (command.Addrtge c) h = made P s _ h _ _ refl (route_added s c) (λ f r n. route_entry_range s.objects r c f.1)
-changed P s user (command.Addaje c) h = made P s _ h _ _ refl (auto_added s c) (λ f r n. auto_entry_range s.objects r c f.1)
-changed P s user (command.Addpje c) h = made P s _ h _ _ refl (pre_added s c) (λ f r n. pre_entry_range s.objects r c f.1)
-changed P s user (command.Rmvjobqe c) h = made P s _ h _ _ refl (queue_removed s c) (λ f r n. without_queue_range s.objects r c.sbsd c.jobq)
-changed P s user (command.Rmvrtge c) h = made P s _ h _ _ refl (route_removed s c) (λ f r n. without_route_range s.objects r c.sbsd c.seqnbr)
-changed P s user (command.Rmvaje c) h = made P s _ h _ _ refl (auto_removed s c) (λ f r n. without_auto_range s.objects r c.sbsd c.job)
-changed P s user (command.Rmvpje c) h = made P s _ h _ _ refl (pre_removed s c) (λ f r n. without_pre_range s.objects r c.sbsd c.pgm)
+changed P s user (command.Crtcls c) h = made P s _ h _ _ (Object kind.Cls c.cls) refl (class_made s c) (λ n. (new_object kind.Cls c.cls s.objects.classes n, (class_of c, refl))) (λ f r n. class_range s.objects r c f.1)
+changed P s user (command.Crtjobq c) h = made P s _ h _ _ (Object kind.Jobq c.jobq) refl (queue_made s c) (λ n. (new_object kind.Jobq c.jobq s.objects.jobqs n, (record {}, refl))) (λ f r n. queue_range s.objects r c f.1)
+changed P s user (command.Crtpgmref c) h = made P s _ h _ _ (Object kind.Pgm c.pgm) refl (program_made s c) (λ n. (new_program c.pgm s.objects.programs n, (record { path = c.path }, refl))) (λ f r n. program_range s.objects r c f.1 n)
+changed P s user (command.Crtjobd c) h = made P s _ h _ _ (Object kind.Jobd c.jobd) refl (job_description_made s c) (λ n. (new_object kind.Jobd c.jobd s.objects.jobds n, (jobd_of c, refl))) (λ f r n. jobd_range s.objects r c f.1)
+changed P s user (command.Crtsbsd c) h = made P s _ h _ _ (Object kind.Sbsd c.sbsd) refl (description_made s c) (λ n. (new_object kind.Sbsd c.sbsd s.objects.sbsds n, (empty_sbsd c.maxjobs, refl))) (λ f r n. sbsd_range s.objects r c f.1)
+changed P s user (command.Addjobqe c) h = made P s _ h _ _ (Description c.sbsd) refl (queue_added s c) (λ n. (with_queue (queue_entry_of c), refl)) (λ f r n. queue_entry_range s.objects r c f.1)
+changed P s user (command.Addrtge c) h = made P s _ h _ _ (Description c.sbsd) refl (route_added s c) (λ n. (with_route (route_entry_of c), refl)) (λ f r n. route_entry_range s.objects r c f.1)
+changed P s user (command.Addaje c) h = made P s _ h _ _ (Description c.sbsd) refl (auto_added s c) (λ n. (with_auto (auto_entry_of c), refl)) (λ f r n. auto_entry_range s.objects r c f.1)
+changed P s user (command.Addpje c) h = made P s _ h _ _ (Description c.sbsd) refl (pre_added s c) (λ n. (with_pre (pre_entry_of c), refl)) (λ f r n. pre_entry_range s.objects r c f.1)
+changed P s user (command.Rmvjobqe c) h = made P s _ h _ _ (Description c.sbsd) refl (queue_removed s c) (λ n. (without_queue c.jobq, refl)) (λ f r n. without_queue_range s.objects r c.sbsd c.jobq)
+changed P s user (command.Rmvrtge c) h = made P s _ h _ _ (Description c.sbsd) refl (route_removed s c) (λ n. (without_route c.seqnbr, refl)) (λ f r n. without_route_range s.objects r c.sbsd c.seqnbr)
+changed P s user (command.Rmvaje c) h = made P s _ h _ _ (Description c.sbsd) refl (auto_removed s c) (λ n. (without_auto c.job, refl)) (λ f r n. without_auto_range s.objects r c.sbsd c.job)
+changed P s user (command.Rmvpje c) h = made P s _ h _ _ (Description c.sbsd) refl (pre_removed s c) (λ n. (without_pre c.pgm, refl)) (λ f r n. without_pre_range s.objects r c.sbsd c.pgm)
 changed P s user (command.Strsbs c) h = start P s _ h c.sbsd (start_refusal s c.sbsd) refl
 changed P s user (command.Endsbs c) h = sbs_ended P s _ h c (started_named s c.sbs) refl
 changed P s user (command.Sbmjob c) h = either P s _ h (is_on s.power) _ _ (λ t. submitted_with P s _ h user c (object_named c.jobd s.objects.jobds) (λ f. f) refl) (λ t. h.refuses PoweringDown)
@@ -512,7 +525,7 @@ changed P s user (command.Evoke c) h = either P s _ h (is_on s.power) _ _ (λ t.
 changed P s user (command.Enduse c) h = use_ends_found P s _ h c (job_named s c.job) refl
 changed P s user (command.Pwrdwnsys c) h =
     either P s _ h (is_down c.option s.power) _ _ (λ t. h.refuses PoweringDown)
-    (λ t. h.ends PowerDown _ _ (same_stops s) (requests_left s (λ e. not (is_of_those (λ b. not (is_ending_by c.option b.phase)) s.started e.sbs))) (down_by c.option) plain_power_down (all_end s c.option c.delay (down_by c.option)) refl)
+    (λ t. h.ends PowerDown _ _ (same_stops s) (requests_left s (λ e. not (is_of_those (λ b. not (is_ending_by c.option b.phase)) s.started e.sbs))) (down_by c.option) plain_power_down (all_end s c.option c.delay (down_by c.option)) refl (inr (record { user = user; c = c; call_is = refl; reply_is = refl })))
 
 -- what holds after whatever the call can come to, holds after the call
 pub call_comes : (P : Stepped → Type 0) (s : State) (caller : ℕ) (call : Call) → HoldsAfterCalls P s call → P (apply s caller call)
@@ -639,7 +652,7 @@ of_states P s call h = record {
   enters = λ user c d due has fit. h.enters user c d due has;
   alters = λ reply change place p a fit. h.alters change place a;
   holds = λ reply held p a told fit. h.holds held a;
-  ends = λ reply change started stopped evokes power p e told. h.ends change started stopped.stops evokes.requests power e;
+  ends = λ reply change started stopped evokes power p e told kept. h.ends change started stopped.stops evokes.requests power e;
   uses = λ reply change p u. h.ends change s.started s.stopped s.evokes s.power u.ending;
   waits = λ place evokes is. h.lists s.stopped evokes.requests;
   prestarts = λ q d e can. prestart_keeps P s q d e can h.supplies (h.lists (without_stop q e.pgm s.stopped) s.evokes);

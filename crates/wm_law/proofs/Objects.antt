@@ -60,6 +60,9 @@ pub record IsObjectChange (s : State) (o : Objects) : Type 0 where
 pub new_object : {V : Type 0} (k : Kind) (name : QName) (objects : List (QName × V)) → object_refusal k name objects ≡ None → has_object name objects ≡ false
 new_object k name objects e = test_fails ((has_object name objects, Exists k) ∷ (is_full 1000 objects, TableFull k 1000) ∷ []) 0 SbsActive e
 
+pub new_program : (name : QName) (programs : List (QName × Program)) → program_refusal name programs ≡ None → has_object name programs ≡ false
+new_program name programs e = (or_parts (is_qcmd name) (has_object name programs) (test_fails ((is_qcmd name || has_object name programs, Exists kind.Pgm) ∷ (is_full 1000 programs, TableFull kind.Pgm 1000) ∷ []) 0 SbsActive e)).1
+
 has_room : {V : Type 0} (k : Kind) (name : QName) (objects : List (QName × V)) → object_refusal k name objects ≡ None → is_full 1000 objects ≡ false
 has_room k name objects e = test_fails ((has_object name objects, Exists k) ∷ (is_full 1000 objects, TableFull k 1000) ∷ []) 1 SbsActive e
 
@@ -126,7 +129,7 @@ queue_made s c e =
 pub program_made : (s : State) (c : Crtpgmref) → program_refusal c.pgm s.objects.programs ≡ None → IsObjectChange s (with_program c.pgm c.path s.objects)
 program_made s c e =
     let tests : List (Bool × Refusal) = (is_qcmd c.pgm || has_object c.pgm s.objects.programs, Exists kind.Pgm) ∷ (is_full 1000 s.objects.programs, TableFull kind.Pgm 1000) ∷ [] in
-    let new = (or_parts (is_qcmd c.pgm) (has_object c.pgm s.objects.programs) (test_fails tests 0 SbsActive e)).1 in
+    let new = new_program c.pgm s.objects.programs e in
     let room : is_full 1000 s.objects.programs ≡ false = test_fails tests 1 SbsActive e in
     let pgm : Program = record { path = c.path } in
     record {

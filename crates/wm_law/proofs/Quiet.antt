@@ -169,7 +169,7 @@ quiet_calls s call n names h quiet = record {
   enters = λ user c d due a fit. record { subsystems = h.subsystems; jobs = last_up s.clock s.started s.jobs (submitted_job s user c d due) (λ x. absurd (cc)) h.jobs };
   alters = λ reply change place p a fit. altered_due s change place a h;
   holds = λ reply held p a told fit. record { subsystems = h.subsystems; jobs = h.jobs };
-  ends = λ reply change started stopped evokes power p e told. absurd (cc);
+  ends = λ reply change started stopped evokes power p e told kept. absurd (cc);
   uses = λ reply change p u. used_due s change u n h;
   waits = λ place evokes is. record { subsystems = h.subsystems; jobs = h.jobs };
   prestarts = λ q d e can. (prestart_keeps IsQuietly s q d e can supplied_quietly (record { names = names; none = record { subsystems = h.subsystems; jobs = h.jobs } })).none;

@@ -96,7 +96,7 @@ calm_calls s call none other = record {
   enters = λ user c d due has fit. record { evokes = refl; started = λ b i. inl i };
   alters = λ reply change place p a fit. record { evokes = refl; started = λ b i. inl i };
   holds = λ reply held p a told fit. record { evokes = refl; started = λ b i. inl i };
-  ends = λ reply change started stopped evokes power p e told. absurd (true≢false (sym told ∙ none));
+  ends = λ reply change started stopped evokes power p e told kept. absurd (true≢false (sym told ∙ none));
   uses = λ reply change p u. record { evokes = refl; started = λ b i. inl i };
   waits = λ place evokes is. absurd (other is);
   prestarts = λ q d e can. calm_made s q e.pgm (room (restarted s q e.pgm) q d e (e.inljobs - count_available q e.pgm s.jobs)) (restarted s q e.pgm) (record { evokes = refl; started = λ b i. inl i });
@@ -408,7 +408,7 @@ answered_so s call = record {
   enters = λ user c d due has fit place e. absurd (cc);
   alters = λ reply change at p a fit place e. absurd (p.waits_not place e);
   holds = λ reply held p a told fit place e. absurd (p.waits_not place e);
-  ends = λ reply change started stopped evokes power p a told place e. absurd (p.waits_not place e);
+  ends = λ reply change started stopped evokes power p a told kept place e. absurd (p.waits_not place e);
   uses = λ reply change p u place e. absurd (p.waits_not place e);
   waits = λ at evokes is place e. is;
   prestarts = λ q d e can place is. absurd (cc);

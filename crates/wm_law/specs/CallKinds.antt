@@ -1,9 +1,10 @@
 -- Which calls tell jobs or subsystems to end, and which change objects or held queues.
-use Rattle.std.specs.Prelude.{Bool, true, false}
+use Rattle.std.specs.Prelude.{Bool, true, false, is_some}
 use Rattle.wm_law.specs.declared.call.Call.{Call}
 use Rattle.wm_law.specs.declared.call.Call.TheVariants.{Change, Hand, Started, StartFailed, Finished, UseDone, Tick}
 use Rattle.wm_law.specs.declared.command.Command.{Command}
 use Rattle.wm_law.specs.declared.command.Command.TheVariants as command
+use Rattle.wm_law.specs.Configured.{configured, configured_by}
 
 -- the command tells jobs or subsystems to end
 abbrev pub tells_to_end : Command → Bool
@@ -46,26 +47,10 @@ is_ending_call (Finished serial end) = false
 is_ending_call (UseDone serial) = false
 is_ending_call Tick = false
 
--- the command makes an object, makes or removes an entry, or holds or releases a queue
+-- the command may change objects or held queues
 abbrev pub configures : Command → Bool
-configures (command.Crtcls c) = true
-configures (command.Crtjobq c) = true
-configures (command.Crtpgmref c) = true
-configures (command.Crtjobd c) = true
-configures (command.Crtsbsd c) = true
-configures (command.Addjobqe c) = true
-configures (command.Addrtge c) = true
-configures (command.Addaje c) = true
-configures (command.Addpje c) = true
-configures (command.Rmvjobqe c) = true
-configures (command.Rmvrtge c) = true
-configures (command.Rmvaje c) = true
-configures (command.Rmvpje c) = true
-configures (command.Hldjobq c) = true
-configures (command.Rlsjobq c) = true
-configures c = false
+configures c = is_some (configured c)
 
 -- a call of such a command
 abbrev pub is_configuring_call : Call → Bool
-is_configuring_call (Change user c) = configures c
-is_configuring_call call = false
+is_configuring_call call = is_some (configured_by call)

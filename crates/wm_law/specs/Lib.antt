@@ -3,6 +3,7 @@ pub mod Autos
 pub mod CallKinds
 pub mod Changing
 pub mod Choice
+pub mod Configured
 pub mod Counts
 pub mod Endings
 pub mod Fit

@@ -11,7 +11,8 @@
 //! becomes of it); `Prestart` (how many prestart jobs are made, which gets a request, and what the end of a use comes to);
 //! `Jobs` (a change to one job); `Counts`; `Opening`; `Pending` (what a monitor asks); `Stepped` (what a call
 //! comes to); `Fit` (which calls the machine has, and their ranges), `Ranges` (which objects and ends keep theirs), `Again` (the command
-//! that makes a thing again) and `CallKinds` (which calls end jobs, and which change objects). What follows
+//! that makes a thing again), `Configured` (what a call may change of the objects and the held queues) and `CallKinds` (which
+//! calls end jobs, and which change objects). What follows
 //! from them: `Laws` and `Kept`; `Limits` (no start passes a limit), `Order` (jobs are launched in their order), `Objects`
 //! (what holds of tables and subsystem descriptions), `Leaving` (which ending subsystems stay), `Handing` (which order Hand
 //! gives), `NextMoment` (what Pending tells), `Supplied` (what settling leaves of prestart entries' idle jobs, waiting requests
@@ -24,6 +25,8 @@ mod boxed;
 mod call;
 mod choice;
 mod command;
+mod configured;
+mod configuring;
 mod job;
 mod launch;
 mod laws;
@@ -40,6 +43,7 @@ pub use command::{
     Crtpgmref, Crtsbsd, EndOption, Endjob, Endpj, Endsbs, Enduse, EvokeCommand, Hldjob, Hldjobq,
     JobRef, Pwrdwnsys, Rlsjob, Rlsjobq, Rmvaje, Rmvjobqe, Rmvpje, Rmvrtge, Sbmjob, Strpj, Strsbs,
 };
+pub use configured::Configured;
 pub use job::{Job, JobKind, Phase, Why, Wish};
 pub use launch::Launched;
 pub use laws::{

@@ -1,18 +1,33 @@
 // What is kept of the objects and the held queues as a call begins.
 ghost use Rattle.std.specs.Prelude.{◌≡◌, IfOk};
-ghost use Rattle.wm_making.specs.Saved.{saved_object, saved_description, saved_by, saved_of};
+ghost use Rattle.wm_law.specs.Configured.{is_there};
+ghost use Rattle.wm_making.specs.Saved.{saved_new, saved_description, saved_as, saved_of};
 
 use crate::Saved;
 use std::alloc::Global;
 use wm_base::{Kind, NoMemory, QName};
-use wm_desc::{Objects, SortedList, Table};
-use wm_law::{Call, Command, QNames};
+use wm_desc::{Objects, SortedList};
+use wm_law::{Call, Configured, QNames};
+
+// Whether an object of a kind is there.
+fn is_there(objects: &Objects, kind: Kind, name: &QName) -> bool
+    ensures { result ≡ is_there kind name.now objects.now }
+{
+    match kind {
+        Kind::Cls => objects.classes.contains(name),
+        Kind::Jobq => objects.jobqs.contains(name),
+        Kind::Pgm => objects.programs.contains(name),
+        Kind::Jobd => objects.jobds.contains(name),
+        Kind::Sbsd => objects.sbsds.contains(name),
+        _ => true,
+    }
+}
 
 // An object that isn't there yet is new.
-fn saved_object<V>(kind: Kind, name: &QName, objects: &Table<V>) -> Saved
-    ensures { result ≡ saved_object kind name.now objects.now }
+fn saved_new(objects: &Objects, kind: Kind, name: &QName) -> Saved
+    ensures { result ≡ saved_new kind name.now objects.now }
 {
-    if objects.contains(name) {
+    if is_there(objects, kind, name) {
         Saved::Nothing
     } else {
         Saved::New(kind, *name)
@@ -37,33 +52,19 @@ fn saved_held(alloc: Global, held: &QNames) -> Result<Saved, NoMemory>
     Ok(Saved::Held(SortedList::from_vec(queues)))
 }
 
-// What a command may change.
-fn saved_by(
+// What may be changed, as it is.
+fn saved_as(
     alloc: Global,
     objects: &Objects,
     held: &QNames,
-    command: &Command,
+    configured: Configured,
 ) -> Result<Saved, NoMemory>
-    ensures { IfOk result (λ saved. saved ≡ saved_by objects.now held.now command.now) }
+    ensures { IfOk result (λ saved. saved ≡ saved_as configured objects.now held.now) }
 {
-    match command {
-        Command::Crtcls(command) => Ok(saved_object(Kind::Cls, &command.cls, &objects.classes)),
-        Command::Crtjobq(command) => Ok(saved_object(Kind::Jobq, &command.jobq, &objects.jobqs)),
-        Command::Crtpgmref(command) => {
-            Ok(saved_object(Kind::Pgm, &command.pgm, &objects.programs))
-        }
-        Command::Crtjobd(command) => Ok(saved_object(Kind::Jobd, &command.jobd, &objects.jobds)),
-        Command::Crtsbsd(command) => Ok(saved_object(Kind::Sbsd, &command.sbsd, &objects.sbsds)),
-        Command::Addjobqe(command) => saved_description(&command.sbsd, objects),
-        Command::Addrtge(command) => saved_description(&command.sbsd, objects),
-        Command::Addaje(command) => saved_description(&command.sbsd, objects),
-        Command::Addpje(command) => saved_description(&command.sbsd, objects),
-        Command::Rmvjobqe(command) => saved_description(&command.sbsd, objects),
-        Command::Rmvrtge(command) => saved_description(&command.sbsd, objects),
-        Command::Rmvaje(command) => saved_description(&command.sbsd, objects),
-        Command::Rmvpje(command) => saved_description(&command.sbsd, objects),
-        Command::Hldjobq(_) | Command::Rlsjobq(_) => saved_held(alloc, held),
-        _ => Ok(Saved::Nothing),
+    match configured {
+        Configured::Object(kind, name) => Ok(saved_new(objects, kind, &name)),
+        Configured::Description(name) => saved_description(&name, objects),
+        Configured::HeldQueues => saved_held(alloc, held),
     }
 }
 
@@ -76,8 +77,8 @@ pub fn saved_of(
 ) -> Result<Saved, NoMemory>
     ensures { IfOk result (λ saved. saved ≡ saved_of objects.now held.now call.now) }
 {
-    match call {
-        Call::Change { command, .. } => saved_by(alloc, objects, held, command.get()),
-        _ => Ok(Saved::Nothing),
+    match call.configured() {
+        None => Ok(Saved::Nothing),
+        Some(configured) => saved_as(alloc, objects, held, configured),
     }
 }

@@ -193,7 +193,7 @@ comes s call fit sound r = record {
   enters = λ user c d due can submits. record { objects = r.objects; held = r.held; jobs = jobs_last s.objects s.jobs (submitted_job s user c d due) r.jobs (submitted_range s user c d due can (submits fit).0 (submits fit).1 sound r); clock = r.clock };
   alters = λ reply change place p a keeps. with_jobs s (map change s.jobs) place (altered_jobs s change place a (keeps fit (λ j i. (r.jobs j i).stored.due)) sound r) r;
   holds = λ reply held p a told keeps. record { objects = r.objects; held = λ q i. (elim (keeps fit q i) as (λ _. IsQName q) [ inl was ↦ r.held q was | inr new ↦ new ]); jobs = r.jobs; clock = r.clock };
-  ends = λ reply change started stopped evokes power p e told. wished_range s change started stopped.stops evokes.requests power e.jobs r;
+  ends = λ reply change started stopped evokes power p e told kept. wished_range s change started stopped.stops evokes.requests power e.jobs r;
   uses = λ reply change p u. wished_range s change s.started s.stopped s.evokes s.power u.ending.jobs r;
   waits = λ place evokes is. with_lists s s.stopped evokes.requests r;
   prestarts = λ q d e can. prestart_keeps IsInRange s q d e can supplies_range (with_lists s (without_stop q e.pgm s.stopped) s.evokes r);
